@@ -1,0 +1,39 @@
+-- Reading (document 01, "The refusals, by number"): fields in order, the first bad one answering, 2 before any other for a field.
+use Prim.Native.Nat.{ℕ, zero, suc, _+_}
+use mathlib.Core.Bool.{Bool, true, false, cond}
+use mathlib.Core.List.{List}
+use lib.ListN.{length}
+use lib.Dec.{leb}
+use Rattle.fields.specs.Bytes.{over}
+use Rattle.fields.specs.declared.rule.Verdict.{Verdict}
+use Rattle.fields.specs.declared.rule.Verdict.the-variants.{Good, Refused}
+
+infixr 20 _then_
+-- the first refusal of two
+unfoldable pub _then_ : Verdict → Verdict → Verdict
+Good then v = v
+(Refused n p) then v = Refused n p
+
+-- a refusal of this number at this place, unless the test holds
+unfoldable pub unless : Bool → ℕ → ℕ → Verdict
+unless true number place = Good
+unless false number place = Refused number place
+
+-- the field of n bytes at k of a record with so many bytes left, which starts at base: 2 where it is not wholly inside, then the
+-- number where its value is outside its rule
+unfoldable pub fieldOf : ℕ → ℕ → ℕ → ℕ → ℕ → Bool → Verdict
+fieldOf left base k n number ok = cond (leb (k + n) left) (unless ok number (base + k)) (Refused 2 (base + k))
+
+-- the same of a record's bytes s, fewer than the record has where the file ends
+abbrev pub field : List ℕ → ℕ → ℕ → ℕ → ℕ → Bool → Verdict
+field s base k n number ok = fieldOf (length s) base k n number ok
+
+-- n records of w bytes from place p on
+unfoldable pub each : (ℕ → Verdict) → ℕ → ℕ → ℕ → Verdict
+each rule zero w p = Good
+each rule (suc n) w p = rule p then each rule n w (p + w)
+
+-- what a writer leaves of the buffer out: the record's bytes over its beginning, or all as lent
+unfoldable pub written : Verdict → List ℕ → List ℕ → List ℕ
+written Good out s = over out 0 s
+written (Refused n p) out s = out

@@ -1,0 +1,26 @@
+-- Each variant answers as the definition.
+use Rattle.m17.specs.Address.{addressGood}
+use borrow.Author.Needs.{needs}
+use Rattle.m17.proofs.address_good.Statement.{statement}
+use Rattle.m17.proofs.address_good.Tie as tie
+
+enum-known-a : tie.Need-enum-known-a
+enum-known-a c = search needs
+
+is-callsign-requires : tie.Need-is-callsign-requires
+is-callsign-requires c κs = search needs
+
+enum-told : tie.Need-enum-told
+enum-told c = search needs
+
+returns : tie.Need-returns
+unfolding addressGood
+returns c = rw (c .before .before .a .given .1) (c .is-callsign .ensures)
+
+returns-2 : tie.Need-returns-2
+unfolding addressGood
+returns-2 c = rw (c .enum-told .given .1)
+
+pub address-good-spec : {M : Type 1} → statement M
+address-good-spec =
+    tie.close (tie.spec enum-known-a is-callsign-requires enum-told returns returns-2)

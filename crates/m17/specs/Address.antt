@@ -1,0 +1,120 @@
+-- M17 addresses (document 01, "M17 addresses"): a text of 1 to 9 characters is the sum of digit × 40^position.
+use Prim.Native.Nat.{ℕ, zero, suc, _+_, _-_, _*_, _/_, _%_, _^_}
+use mathlib.Core.Bool.{Bool, true, false, _&&_, _||_, not, cond}
+use mathlib.Core.List.{List, [], _∷_, _++_}
+use lib.ListN.{length, drop, replicate}
+use lib.Dec.{leb, ltb, eqb}
+use Rattle.m17.specs.declared.Address.{Address}
+use Rattle.m17.specs.declared.Address.the-variants.{Callsign, Broadcast}
+use Rattle.m17.specs.declared.Encoded.{Encoded}
+use Rattle.m17.specs.declared.Encoded.the-variants as encoded
+use Rattle.m17.specs.declared.Decoded.{Decoded}
+use Rattle.m17.specs.declared.Decoded.the-variants as decoded
+
+-- ---- digits and characters
+
+unfoldable pub within : ℕ → ℕ → ℕ → Bool
+within low high c = leb low c && leb c high
+
+-- space 0, A to Z 1 to 26, 0 to 9 27 to 36, hyphen 37, slash 38, dot 39; any other character is foreign and has no digit: 40
+unfoldable pub digitOf : ℕ → ℕ
+digitOf c =
+    cond (eqb c 0x20) 0
+    (cond (within 0x41 0x5A c) (1 + (c - 0x41))
+    (cond (within 0x30 0x39 c) (27 + (c - 0x30))
+    (cond (eqb c 0x2D) 37
+    (cond (eqb c 0x2F) 38
+    (cond (eqb c 0x2E) 39
+    40)))))
+
+unfoldable pub foreign : ℕ → Bool
+foreign c = eqb (digitOf c) 40
+
+-- the character of a digit below 40
+unfoldable pub charOf : ℕ → ℕ
+charOf d =
+    cond (eqb d 0) 0x20
+    (cond (leb d 26) (0x41 + (d - 1))
+    (cond (leb d 36) (0x30 + (d - 27))
+    (cond (eqb d 37) 0x2D
+    (cond (eqb d 38) 0x2F
+    0x2E))))
+
+-- ---- a text to its number
+
+-- the sum of digit × 40^position, the first character at position 0
+unfoldable pub addressOf : List ℕ → ℕ
+addressOf [] = 0
+addressOf (c ∷ s) = digitOf c + 40 * addressOf s
+
+-- the position of the first foreign character, or the length where there is none
+unfoldable pub firstForeign : List ℕ → ℕ
+firstForeign [] = 0
+firstForeign (c ∷ s) = cond (foreign c) 0 (1 + firstForeign s)
+
+-- whether the last character is a space
+unfoldable pub endsInSpace : List ℕ → Bool
+endsInSpace [] = false
+endsInSpace (c ∷ []) = eqb c 0x20
+endsInSpace (c ∷ (d ∷ s)) = endsInSpace (d ∷ s)
+
+-- 20 a text of 0 or over 9 characters; 21 a foreign character, at its position; 22 it ends in a space
+unfoldable pub encoding : List ℕ → Encoded
+encoding s =
+    cond (not (within 1 9 (length s))) (encoded.Refused 20 0)
+    (cond (ltb (firstForeign s) (length s)) (encoded.Refused 21 (firstForeign s))
+    (cond (endsInSpace s) (encoded.Refused 22 0)
+    (encoded.Number (addressOf s))))
+
+-- ---- a number to its text
+
+-- 40^9 - 1, the number of nine dots
+abbrev pub lastCallsign : ℕ
+lastCallsign = 262_143_999_999_999
+
+abbrev pub broadcast : ℕ
+broadcast = 0xFFFFFFFFFFFF
+
+unfoldable pub isCallsign : ℕ → Bool
+isCallsign n = within 1 lastCallsign n
+
+-- which numbers are addresses: what request [10] of document 02 moves
+unfoldable pub addressOk : ℕ → Bool
+addressOk n = isCallsign n || eqb n broadcast
+
+-- the text of a number, of at most k characters
+unfoldable pub textUpTo : ℕ → ℕ → List ℕ
+textUpTo zero n = []
+textUpTo (suc k) n = cond (eqb n 0) [] (charOf (n % 40) ∷ textUpTo k (n / 40))
+
+unfoldable pub textFor : ℕ → List ℕ
+textFor n = textUpTo 9 n
+
+-- 24 a buffer under 9 bytes; 23 an invalid number; a callsign answers its text's length
+unfoldable pub decoding : ℕ → ℕ → Decoded
+decoding room n =
+    cond (ltb room 9) (decoded.Refused 24 0)
+    (cond (isCallsign n) (decoded.Text (length (textFor n)))
+    (cond (eqb n broadcast) decoded.Broadcast
+    (decoded.Refused 23 0)))
+
+-- what is left of the buffer: of a callsign the text and then zeros over the first nine bytes; otherwise all as lent
+unfoldable pub decodedInto : List ℕ → ℕ → List ℕ
+decodedInto out n =
+    cond (not (ltb (length out) 9) && isCallsign n)
+    (textFor n ++ (replicate (9 - length (textFor n)) 0 ++ drop 9 out))
+    out
+
+-- ---- the address enum, by this paper's numbers
+
+unfoldable pub addressNumber : Address → ℕ
+addressNumber (Callsign n) = n
+addressNumber Broadcast = broadcast
+
+unfoldable pub addressFor : ℕ → Address
+addressFor n = cond (eqb n broadcast) Broadcast (Callsign n)
+
+-- a callsign's number that is one
+unfoldable pub addressGood : Address → Bool
+addressGood (Callsign n) = isCallsign n
+addressGood Broadcast = true
