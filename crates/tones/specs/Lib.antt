@@ -1,0 +1,2 @@
+-- CTCSS tones.
+pub mod Tone
