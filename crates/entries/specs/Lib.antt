@@ -1,0 +1,2 @@
+-- Bank entries, one at a time.
+pub mod Entry
