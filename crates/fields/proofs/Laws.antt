@@ -44,6 +44,10 @@ part-part s p w k n h = take-drop-take (drop p s) k n w h ∙ rw drop-drop
 pub part-add : (s : List ℕ) (k m n : ℕ) → part s k (m + n) ≡ part s k m ++ part s (k + m) n
 part-add s k m n = take-add m n (drop k s) ∙ rw drop-drop
 
+-- a part that is whole lies inside
+pub part-inside : (s : List ℕ) (k n : ℕ) → 0 < n → n ≤ length (part s k n) → k + n ≤ length s
+part-inside s k n h g = omega (arith, simp (length-take, length-drop) at g)
+
 -- one byte more, at the end and in front
 pub part-suc : (s : List ℕ) (k i : ℕ) → k + i < length s → part s k (suc i) ≡ part s k i ++ (getD s (k + i) 0 ∷ [])
 part-suc s k i h = take-suc (drop k s) i 0 (simp length-drop (omega arith)) ∙ rw getD-drop
@@ -371,6 +375,23 @@ pub each-step : (rule : ℕ → Verdict) (n i w p : ℕ) → i < n → each rule
 each-step rule n i w p h =
     let e : n - i ≡ suc (n - (i + 1)) = omega arith in
     rw (e, each-suc rule (n - (i + 1)) w p)
+
+-- a loop that returns the first refusal, at the i-th of n records, which stands at p: what is left from there on answers for all, and
+-- v is the verdict of the record at p
+pub each-next : (rule : ℕ → Verdict) (n i w p : ℕ) (all v : Verdict) → i < n → all ≡ each rule (n - i) w p → v ≡ rule p → v ≡ Good
+    → all ≡ each rule (n - (i + 1)) w (p + w)
+each-next rule n i w p all v h e f g =
+    e ∙ each-step rule n i w p h ∙ good-then (rule p) (each rule (n - (i + 1)) w (p + w)) (sym f ∙ g)
+
+pub each-bad : (rule : ℕ → Verdict) (n i w p : ℕ) (all v : Verdict) (a b : ℕ) → i < n → all ≡ each rule (n - i) w p → v ≡ rule p
+    → v ≡ Refused a b → v ≡ all
+each-bad rule n i w p all v a b h e f g =
+    g ∙ sym (e ∙ each-step rule n i w p h ∙ then-refused (rule p) (each rule (n - (i + 1)) w (p + w)) a b (sym f ∙ g))
+
+pub each-done : (rule : ℕ → Verdict) (n i w p : ℕ) (all : Verdict) → n ≤ i → all ≡ each rule (n - i) w p → Good ≡ all
+each-done rule n i w p all h e =
+    let z : n - i ≡ 0 = omega arith in
+    each-none rule w p ∙ sym (e ∙ rw z)
 
 -- the first bad record answers
 pub each-stop : (rule : ℕ → Verdict) (n w p i a b : ℕ) → i < n → ((j : ℕ) → j < i → rule (p + j * w) ≡ Good)

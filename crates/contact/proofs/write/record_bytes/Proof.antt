@@ -1,0 +1,39 @@
+-- The name over zeros, then the info behind it.
+use native.Mathlib.Omega.{arith}
+use borrow.Author.Needs.{needs}
+use Rattle.fields.specs.Bytes.{zeros}
+use Rattle.contact.specs.Contact.{contactBytes}
+use Rattle.fields.proofs.TextLaws.{givenOk-length}
+use Rattle.contact.proofs.Laws.{named-length, named-rest, named-name}
+use Rattle.contact.proofs.write.record_bytes.Statement.{statement}
+use Rattle.contact.proofs.write.record_bytes.Tie as tie
+
+slice-aggregate-put : tie.Need-slice-aggregate-put
+slice-aggregate-put c = search needs
+
+put-requires : tie.Need-put-requires
+put-requires c κs = omega (arith, givenOk-length _ (c .before .before .pre .0))
+
+slice-aggregate-put-info : tie.Need-slice-aggregate-put-info
+slice-aggregate-put-info c = search needs
+
+put-info-requires : tie.Need-put-info-requires
+unfolding zeros
+put-info-requires c κs =
+    let p = c .before .before in
+    let e = p .before .before .before in (
+      named-length _ (e .args .name .now) (e .pre .0) (p .put .ensures),
+      (named-rest _ (e .args .name .now) (e .pre .0) (p .put .ensures), e .pre .1),
+    )
+
+returns : tie.Need-returns
+unfolding zeros contactBytes
+returns c =
+    let p = c .before .before .before .before in
+    let e = p .before .before .before in
+    rw (c .before .put-info .ensures, named-name _ (e .args .name .now) (e .pre .0) (p .put .ensures))
+
+pub record-bytes-spec : {M : Type 1} → statement M
+record-bytes-spec =
+    tie.close
+    (tie.spec slice-aggregate-put put-requires slice-aggregate-put-info put-info-requires returns)

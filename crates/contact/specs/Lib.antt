@@ -1,0 +1,2 @@
+-- Contact records of 39 bytes.
+pub mod Contact

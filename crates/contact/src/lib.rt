@@ -1,0 +1,48 @@
+// Contact records of 39 bytes: judged, read and written (document 01, "The file").
+pub mod judge; // judge.rt: the first bad field of a contact
+pub mod read; // read.rt: a contact's bytes to its value
+pub mod settings_byte; // settings_byte.rt: the settings byte of a DMR contact
+pub mod write; // write.rt: a contact's value to its bytes
+
+use fields::rule::Verdict;
+use m17::Address;
+
+pub const CONTACT_LENGTH: usize = 39;
+
+pub const DMR: u8 = 1;
+
+pub const M17: u8 = 2;
+
+// The contact types of a DMR contact.
+pub const GROUP: u8 = 0;
+
+pub const PRIVATE: u8 = 1;
+
+pub const ALL_CALL: u8 = 2;
+
+pub struct Settings {
+    pub kind: u8,
+    pub rx_tone: bool,
+}
+
+pub struct DmrContact {
+    pub id: u32,
+    pub settings: Settings,
+}
+
+pub enum ContactInfo {
+    M17(Address),
+    Dmr(DmrContact),
+}
+
+// The name stands as in the file: a text, then zeros.
+pub struct Contact {
+    pub name: [u8; 32],
+    pub info: ContactInfo,
+}
+
+// A reader's answer. Beside a refusal stands a blank contact.
+pub struct ContactRead {
+    pub verdict: Verdict,
+    pub contact: Contact,
+}

@@ -1,0 +1,26 @@
+-- The header, 88 bytes (document 01, "The file").
+use Prim.Native.Nat.{ℕ}
+use mathlib.Core.Bool.{true}
+use mathlib.Core.List.{List}
+use lib.Dec.{eqb}
+use Rattle.fields.specs.Bytes.{part, num}
+use Rattle.fields.specs.Text.{textOk}
+use Rattle.fields.specs.Rule.{_then_, field}
+use Rattle.fields.specs.declared.rule.Verdict.{Verdict}
+
+-- magic 52 54 58 43 00 00 00 00, version 1, author, description
+unfoldable pub titleRule : List ℕ → Verdict
+titleRule f =
+    field f 0 0 8 3 (eqb (num f 0 8) 0x43585452)
+    then field f 0 8 2 4 (eqb (num f 8 2) 1)
+    then field f 0 10 32 5 (textOk (part f 10 32))
+    then field f 0 42 32 5 (textOk (part f 42 32))
+
+-- then the timestamp and the three counts, any
+unfoldable pub headerRule : List ℕ → Verdict
+headerRule f =
+    titleRule f
+    then field f 0 74 8 7 true
+    then field f 0 82 2 7 true
+    then field f 0 84 2 7 true
+    then field f 0 86 2 7 true

@@ -1,0 +1,76 @@
+// Counts, and where the parts of a file stand.
+use crate::Counts;
+use fields::numbers::le16;
+ghost use mathlib.Core.Path.{_≡_};
+ghost use Prim.Native.Nat.{_+_, _*_, _<_, _≤_, _^_};
+ghost use Rattle.fields.specs.Bytes.{part};
+ghost use Rattle.layout.specs.Places.{contactCount, channelCount, bankCount, contactPlace, channelPlace, offsetPlace, banksPlace, countsOf};
+
+// The w bytes of f at p, fewer where f ends.
+pub fn lend(f: &[u8], p: usize, w: usize) -> &[u8]
+    ensures { λ r. ⌜ now r ≡ part (now (f .entry)) p w ⌝ }
+{
+    let n = f.len();
+    if n <= p {
+        return &f[n..];
+    }
+    if w <= n - p {
+        return &f[p..p + w];
+    }
+    &f[p..]
+}
+
+pub fn contact_count(f: &[u8]) -> usize
+    ensures { λ r. ⌜ (r ≡ contactCount (now (f .entry))) × (r < 65536) ⌝ }
+{
+    le16(f, 82) as usize
+}
+
+pub fn channel_count(f: &[u8]) -> usize
+    ensures { λ r. ⌜ (r ≡ channelCount (now (f .entry))) × (r < 65536) ⌝ }
+{
+    le16(f, 84) as usize
+}
+
+pub fn bank_count(f: &[u8]) -> usize
+    ensures { λ r. ⌜ (r ≡ bankCount (now (f .entry))) × (r < 65536) ⌝ }
+{
+    le16(f, 86) as usize
+}
+
+pub fn counts_of(f: &[u8]) -> Counts
+    ensures { λ r. ⌜ r ≡ countsOf (now (f .entry)) ⌝ }
+{
+    Counts {
+        contacts: le16(f, 82),
+        channels: le16(f, 84),
+        banks: le16(f, 86),
+    }
+}
+
+pub fn contact_place(i: usize) -> usize
+    requires { ⌜ i < 65536 ⌝ }
+    ensures { λ r. ⌜ (r ≡ contactPlace i) × (r < 2 ^ 22) ⌝ }
+{
+    88 + i * 39
+}
+
+pub fn channel_place(f: &[u8], i: usize) -> usize
+    requires { ⌜ i < 65536 ⌝ }
+    ensures { λ r. ⌜ (r ≡ channelPlace (now (f .entry)) i) × (r < 2 ^ 24) ⌝ }
+{
+    contact_place(contact_count(f)) + i * 90
+}
+
+pub fn offset_place(f: &[u8], i: usize) -> usize
+    requires { ⌜ i < 65536 ⌝ }
+    ensures { λ r. ⌜ (r ≡ offsetPlace (now (f .entry)) i) × (r < 2 ^ 25) ⌝ }
+{
+    channel_place(f, channel_count(f)) + i * 4
+}
+
+pub fn banks_place(f: &[u8]) -> usize
+    ensures { λ r. ⌜ (r ≡ banksPlace (now (f .entry))) × (r < 2 ^ 25) ⌝ }
+{
+    offset_place(f, bank_count(f))
+}
