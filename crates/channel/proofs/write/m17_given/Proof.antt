@@ -1,0 +1,57 @@
+-- `write::m17_given`: each test in its place.
+use borrow.Author.Needs.{needs}
+use Rattle.channel.specs.Channel.{infoGiven}
+use Rattle.channel.proofs.write.m17_given.Statement.{statement}
+use Rattle.channel.proofs.write.m17_given.Tie as tie
+
+halves-good-requires : tie.Need-halves-good-requires
+halves-good-requires c κs = search needs
+
+unless-requires : tie.Need-unless-requires
+unless-requires c κs = search needs
+
+operation-ok-requires : tie.Need-operation-ok-requires
+operation-ok-requires c κs = search needs
+
+unless-requires-2 : tie.Need-unless-requires-2
+unless-requires-2 c κs = search needs
+
+contact-index-good-requires : tie.Need-contact-index-good-requires
+contact-index-good-requires c κs = search needs
+
+unless-requires-3 : tie.Need-unless-requires-3
+unless-requires-3 c κs = search needs
+
+first-requires : tie.Need-first-requires
+first-requires c κs = search needs
+
+first-requires-2 : tie.Need-first-requires-2
+first-requires-2 c κs = search needs
+
+returns : tie.Need-returns
+unfolding infoGiven
+returns c =
+    rw (
+      c .first2 .ensures,
+      c .before .first .ensures,
+      c .before .before .unless3 .ensures,
+      c .before .before .before .contact-index-good .ensures,
+      c .before .before .before .before .unless2 .ensures,
+      c .before .before .before .before .before .operation-ok .ensures,
+      c .before .before .before .before .before .before .unless .ensures,
+      c .before .before .before .before .before .before .before .halves-good .ensures,
+    )
+
+pub m17-given-spec : {M : Type 1} → statement M
+m17-given-spec =
+    tie.close
+    (tie.spec
+    halves-good-requires
+    unless-requires
+    operation-ok-requires
+    unless-requires-2
+    contact-index-good-requires
+    unless-requires-3
+    first-requires
+    first-requires-2
+    returns)

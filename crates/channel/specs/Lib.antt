@@ -1,0 +1,2 @@
+-- Channel records of 90 bytes.
+pub mod Channel

@@ -1,0 +1,88 @@
+// The rules of single values of a channel.
+use crate::ContactIndex;
+use crate::Traits;
+use bits::Choice;
+ghost use mathlib.Core.Path.{_≡_};
+ghost use mathlib.Core.Bool.{_&&_};
+ghost use Rattle.bits.specs.Packed.{signedOf};
+ghost use Rattle.channel.specs.Channel.{traitsOf, traitsChoice, latitudeOk, latitudeFractionOk, fractionOk, slotOk, operationOk, encryptionOk, contactIndexOf, contactIndexNumber, contactIndexGood};
+
+pub fn traits_of(b: u8) -> Traits
+    ensures { λ r. ⌜ r ≡ traitsOf b ⌝ }
+{
+    let c = bits::choice_of(b);
+    Traits {
+        bandwidth: c.number,
+        receive_only: c.flag,
+    }
+}
+
+pub fn traits_choice(t: Traits) -> Choice
+    ensures { λ r. ⌜ r ≡ traitsChoice t ⌝ }
+{
+    Choice {
+        number: t.bandwidth,
+        flag: t.receive_only,
+    }
+}
+
+// Of a latitude's floor, by its byte: -90 to 90.
+pub fn latitude_ok(b: u8) -> bool
+    ensures { λ r. ⌜ r ≡ latitudeOk (signedOf b) ⌝ }
+{
+    b <= 90 || 166 <= b
+}
+
+pub fn fraction_ok(x: u16) -> bool
+    ensures { λ r. ⌜ r ≡ fractionOk x ⌝ }
+{
+    x <= 9999
+}
+
+// Of a latitude's ten-thousandths over the floor's byte: none above 90.
+pub fn latitude_fraction_ok(floor: u8, x: u16) -> bool
+    ensures { λ r. ⌜ r ≡ latitudeFractionOk (signedOf floor) x ⌝ }
+{
+    if floor == 90 { x == 0 } else { x <= 9999 }
+}
+
+pub fn slot_ok(x: u8) -> bool
+    ensures { λ r. ⌜ r ≡ slotOk x ⌝ }
+{
+    1 <= x && x <= 2
+}
+
+// Operation 1 to 3 with encryption 0 to 2.
+pub fn operation_ok(operation: u8, encryption: u8) -> bool
+    ensures { λ r. ⌜ r ≡ operationOk operation && encryptionOk encryption ⌝ }
+{
+    1 <= operation && operation <= 3 && encryption <= 2
+}
+
+pub fn contact_index_of(x: u16) -> ContactIndex
+    ensures { λ r. ⌜ r ≡ contactIndexOf x ⌝ }
+{
+    if x == 65535 {
+        ContactIndex::Nobody
+    } else {
+        ContactIndex::Index(x)
+    }
+}
+
+pub fn contact_index_number(c: ContactIndex) -> u16
+    ensures { λ r. ⌜ r ≡ contactIndexNumber c ⌝ }
+{
+    match c {
+        ContactIndex::Nobody => 65535,
+        ContactIndex::Index(x) => x,
+    }
+}
+
+pub fn contact_index_good(c: ContactIndex) -> bool
+    ensures { λ r. ⌜ r ≡ contactIndexGood c ⌝ }
+{
+    match c {
+        ContactIndex::Nobody => true,
+        ContactIndex::Index(x) => x != 65535,
+    }
+}
