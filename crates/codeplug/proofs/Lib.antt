@@ -1,0 +1,5 @@
+-- Laws of the file's definitions, and what holds of an accepted file.
+pub mod FileLaws
+pub mod Laws
+pub mod JudgedOnce
+pub mod Accepted

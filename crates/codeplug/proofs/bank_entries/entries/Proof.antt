@@ -1,0 +1,74 @@
+-- Beside a refusal none; at a good place the offset leads to the bank.
+use mathlib.Core.Path.{_≡_, sym, _∙_}
+use Rattle.layout.specs.Banks.{bankPlace}
+use Rattle.codeplug.specs.Read.{entriesRead}
+use Rattle.codeplug.specs.Once.{tablePlace}
+use Rattle.codeplug.proofs.Laws.{place-good, placed-leads, never, entries-same}
+use native.Mathlib.Omega.{arith}
+use borrow.Author.Needs.{needs}
+use Rattle.codeplug.proofs.bank_entries.entries.Statement.{statement}
+use Rattle.codeplug.proofs.bank_entries.entries.Tie as tie
+
+bank-count-requires : tie.Need-bank-count-requires
+bank-count-requires c κs = search needs
+
+place-requires : tie.Need-place-requires
+place-requires c κs = search needs
+
+enum-told : tie.Need-enum-told
+enum-told c = search needs
+
+entries-of-requires : tie.Need-entries-of-requires
+entries-of-requires c κs = search needs
+
+returns : tie.Need-returns
+unfolding entriesRead
+returns c =
+    let e = c .before .before .before in
+    let a = e .before .before .before .args in
+    let f = a .f .now in
+    c .entries-of .ensures
+    ∙ entries-same _ f 0 (bankPlace f (a .n)) (λ g. never (c .before .enum-told .given .1) g)
+    ∙ rw (e .place .ensures, e .before .bank-count .ensures .0)
+
+enum-told-2 : tie.Need-enum-told-2
+enum-told-2 c = search needs
+
+offset-place-requires : tie.Need-offset-place-requires
+offset-place-requires c κs =
+    let e = c .before .before in
+    let a = e .before .before .before .args in
+    omega (arith, place-good (a .f .now) (a .n) _ (sym (e .place .ensures) ∙ c .enum-told2 .given .1) .below)
+
+offset-leads-requires : tie.Need-offset-leads-requires
+offset-leads-requires c κs = search needs
+
+entries-of-requires-2 : tie.Need-entries-of-requires-2
+entries-of-requires-2 c κs = search needs
+
+returns-2 : tie.Need-returns-2
+unfolding entriesRead tablePlace
+returns-2 c =
+    let o = c .before .before in
+    let e = o .before .before .before in
+    let a = e .before .before .before .args in
+    let f = a .f .now in
+    let good = sym (e .place .ensures) ∙ o .before .enum-told2 .given .1 in
+    let led = placed-leads f (a .n) _ good (e .before .bank-count .ensures .0) in
+    let p : c .before .offset-leads .result ≡ bankPlace f (a .n) = c .before .offset-leads .ensures .0 ∙ rw (o .offset-place .ensures .0) led in
+    rw (c .entries-of2 .ensures, p, e .place .ensures, e .before .bank-count .ensures .0)
+
+pub entries-spec : {M : Type 1} → statement M
+entries-spec =
+    tie.close
+    (tie.spec
+    bank-count-requires
+    place-requires
+    enum-told
+    entries-of-requires
+    returns
+    enum-told-2
+    offset-place-requires
+    offset-leads-requires
+    entries-of-requires-2
+    returns-2)

@@ -1,0 +1,48 @@
+-- Beside a refusal none; else the bytes behind the entry count.
+use Rattle.codeplug.specs.Read.{entriesAnswer}
+use borrow.Author.Needs.{needs}
+use Rattle.codeplug.proofs.bank_entries.entries_of.Statement.{statement}
+use Rattle.codeplug.proofs.bank_entries.entries_of.Tie as tie
+
+enum-told : tie.Need-enum-told
+enum-told c = search needs
+
+slice-aggregate-result : tie.Need-slice-aggregate-result
+slice-aggregate-result c = search needs
+
+returns : tie.Need-returns
+unfolding entriesAnswer
+returns c = rw (c .before .enum-told .given .1)
+
+enum-told-2 : tie.Need-enum-told-2
+enum-told-2 c = search needs
+
+add-lend : tie.Need-add-lend
+add-lend c = search needs
+
+entry-count-requires : tie.Need-entry-count-requires
+entry-count-requires c κs = search needs
+
+mul-lend : tie.Need-mul-lend
+mul-lend c = search needs
+
+lend-requires : tie.Need-lend-requires
+lend-requires c κs = search needs
+
+returns-2 : tie.Need-returns-2
+unfolding entriesAnswer
+returns-2 c = rw (c .before .before .enum-told2 .given .1, c .lend .ensures, c .before .entry-count .ensures .0)
+
+pub entries-of-spec : {M : Type 1} → statement M
+entries-of-spec =
+    tie.close
+    (tie.spec
+    enum-told
+    slice-aggregate-result
+    returns
+    enum-told-2
+    add-lend
+    entry-count-requires
+    mul-lend
+    lend-requires
+    returns-2)

@@ -1,0 +1,42 @@
+-- Reading records of a file that was judged before, without judging it again. Any bytes are answered: 33 by the header's count, then
+-- the record's own first bad field. Of an accepted file the answers are those of Read.antt (proofs/JudgedOnce.antt).
+use Prim.Native.Nat.{ℕ, _+_, _*_}
+use mathlib.Core.List.{List}
+use lib.Dec.{ltb}
+use Rattle.fields.specs.Bytes.{part, num}
+use Rattle.fields.specs.Rule.{_then_, unless}
+use Rattle.fields.specs.declared.rule.Verdict.{Verdict}
+use Rattle.contact.specs.Contact.{contactAnswer}
+use Rattle.contact.specs.declared.ContactRead.{ContactRead}
+use Rattle.channel.specs.Channel.{channelAnswer}
+use Rattle.channel.specs.declared.ChannelRead.{ChannelRead}
+use Rattle.layout.specs.Places.{contactCount, channelCount, bankCount, contactPlace, channelPlace, offsetPlace, banksPlace}
+use Rattle.layout.specs.Banks.{offsetAt, bankHead}
+use Rattle.codeplug.specs.File.{contactAt, channelAt}
+use Rattle.codeplug.specs.Read.{bankAnswer, entriesAnswer}
+use Rattle.codeplug.specs.declared.BankRead.{BankRead}
+
+unfoldable pub contactOnce : List ℕ → ℕ → ContactRead
+contactOnce f n =
+    contactAnswer (unless (ltb n (contactCount f)) 33 0 then contactAt f (contactPlace n)) (part f (contactPlace n) 39)
+
+unfoldable pub channelOnce : List ℕ → ℕ → ChannelRead
+channelOnce f n =
+    channelAnswer (unless (ltb n (channelCount f)) 33 0 then channelAt f (channelPlace f n)) (part f (channelPlace f n) 90)
+
+-- where the offset table says that bank n starts
+unfoldable pub tablePlace : List ℕ → ℕ → ℕ
+tablePlace f n = banksPlace f + num f (offsetPlace f n) 4
+
+unfoldable pub bankOnceRule : List ℕ → ℕ → Verdict
+bankOnceRule f n =
+    unless (ltb n (bankCount f)) 33 0
+    then offsetAt f (offsetPlace f n)
+    then bankHead f (tablePlace f n)
+
+unfoldable pub bankOnce : List ℕ → ℕ → BankRead
+bankOnce f n = bankAnswer (bankOnceRule f n) (part f (tablePlace f n) 34)
+
+-- fewer bytes than the entry count says where the file ends before
+unfoldable pub entriesOnce : List ℕ → ℕ → List ℕ
+entriesOnce f n = entriesAnswer (bankOnceRule f n) f (tablePlace f n)

@@ -1,0 +1,84 @@
+-- Reading a file's parts (document 01, "The refusals, by number"): the file's refusal, then 33.
+use Prim.Native.Nat.{ℕ, _+_, _*_}
+use mathlib.Core.List.{List, []}
+use lib.Dec.{ltb}
+use Rattle.fields.specs.Bytes.{part, num, zeros}
+use Rattle.fields.specs.Rule.{_then_, unless}
+use Rattle.fields.specs.declared.rule.Verdict.{Verdict}
+use Rattle.fields.specs.declared.rule.Verdict.the-variants.{Good, Refused}
+use Rattle.contact.specs.Contact.{contactAnswer}
+use Rattle.contact.specs.declared.ContactRead.{ContactRead}
+use Rattle.channel.specs.Channel.{channelAnswer}
+use Rattle.channel.specs.declared.ChannelRead.{ChannelRead}
+use Rattle.layout.specs.Places.{contactCount, channelCount, bankCount, contactPlace, channelPlace, countsOf}
+use Rattle.layout.specs.Banks.{bankPlace, entryCount}
+use Rattle.codeplug.specs.File.{fileRule}
+use Rattle.codeplug.specs.declared.Header.{Header}
+use Rattle.codeplug.specs.declared.HeaderRead.{HeaderRead}
+use Rattle.codeplug.specs.declared.Bank.{Bank}
+use Rattle.codeplug.specs.declared.BankRead.{BankRead}
+use Rattle.entries.specs.Entry.{entryStep}
+use Rattle.entries.specs.declared.EntryStep.{EntryStep}
+use Rattle.entries.specs.declared.EntryStep.the-variants as step
+
+-- ---- the header
+
+unfoldable pub headerOf : List ℕ → Header
+headerOf f = record { author = part f 10 32; description = part f 42 32; timestamp = num f 74 8; counts = countsOf f }
+
+-- what stands beside a refusal
+unfoldable pub blankHeader : Header
+blankHeader =
+    record { author = zeros 32; description = zeros 32; timestamp = 0; counts = record { contacts = 0; channels = 0; banks = 0 } }
+
+unfoldable pub headerAnswer : Verdict → List ℕ → HeaderRead
+headerAnswer Good f = record { verdict = Good; header = headerOf f }
+headerAnswer (Refused n p) f = record { verdict = Refused n p; header = blankHeader }
+
+unfoldable pub headerRead : List ℕ → HeaderRead
+headerRead f = headerAnswer (fileRule f) f
+
+-- ---- record n of a file
+
+-- the file's refusal, then 33 where there is no place n below the count
+unfoldable pub placeRule : List ℕ → ℕ → ℕ → Verdict
+placeRule f n count = fileRule f then unless (ltb n count) 33 0
+
+unfoldable pub contactRead : List ℕ → ℕ → ContactRead
+contactRead f n = contactAnswer (placeRule f n (contactCount f)) (part f (contactPlace n) 39)
+
+unfoldable pub channelRead : List ℕ → ℕ → ChannelRead
+channelRead f n = channelAnswer (placeRule f n (channelCount f)) (part f (channelPlace f n) 90)
+
+-- ---- bank n: its name and its entry count
+
+unfoldable pub bankOf : List ℕ → Bank
+bankOf s = record { name = part s 0 32; entries = num s 32 2 }
+
+unfoldable pub blankBank : Bank
+blankBank = record { name = zeros 32; entries = 0 }
+
+unfoldable pub bankAnswer : Verdict → List ℕ → BankRead
+bankAnswer Good s = record { verdict = Good; bank = bankOf s }
+bankAnswer (Refused n p) s = record { verdict = Refused n p; bank = blankBank }
+
+unfoldable pub bankRead : List ℕ → ℕ → BankRead
+bankRead f n = bankAnswer (placeRule f n (bankCount f)) (part f (bankPlace f n) 34)
+
+-- ---- bank entries, one at a time
+
+-- the bytes of a good bank's entries, none beside a refusal
+unfoldable pub entriesAnswer : Verdict → List ℕ → ℕ → List ℕ
+entriesAnswer Good f p = part f (p + 34) (entryCount f p * 2)
+entriesAnswer (Refused n q) f p = []
+
+unfoldable pub entriesRead : List ℕ → ℕ → List ℕ
+entriesRead f n = entriesAnswer (placeRule f n (bankCount f)) f (bankPlace f n)
+
+-- entry i of bank n: the file's refusal, then 33
+unfoldable pub entryAnswer : Verdict → List ℕ → ℕ → EntryStep
+entryAnswer Good s i = entryStep s i
+entryAnswer (Refused n p) s i = step.Refused n p
+
+unfoldable pub entryRead : List ℕ → ℕ → ℕ → EntryStep
+entryRead f n i = entryAnswer (placeRule f n (bankCount f)) (entriesRead f n) i

@@ -1,0 +1,83 @@
+// The judge of the contacts and the channels.
+use channel::ContactIndex;
+use channel::read::named_contact;
+use fields::numbers::byte_at;
+use fields::rule::Verdict;
+use layout::places::channel_count;
+use layout::places::channel_place;
+use layout::places::contact_count;
+use layout::places::contact_place;
+use layout::places::lend;
+ghost use mathlib.Core.Path.{_≡_};
+ghost use Prim.Native.Nat.{_<_, _^_};
+ghost use Rattle.codeplug.specs.File.{contactAt, contactsRule, namesContact, indexOk, channelAt, channelsRule};
+
+// The contact at p.
+pub fn contact_at(f: &[u8], p: usize) -> Verdict
+    requires { ⌜ p < 2 ^ 62 ⌝ }
+    ensures { λ r. ⌜ r ≡ contactAt (now (f .entry)) p ⌝ }
+{
+    contact::judge::judge(lend(f, p, 39), p)
+}
+
+pub fn judge_contacts(f: &[u8]) -> Verdict
+    ensures { λ r. ⌜ r ≡ contactsRule (now (f .entry)) ⌝ }
+{
+    let contacts = contact_count(f);
+    let mut i = 0;
+    let mut p = 88;
+    while i < contacts {
+        let v = contact_at(f, p);
+        if let Verdict::Refused(_, _) = v {
+            return v;
+        }
+        i += 1;
+        p += 39;
+    }
+    Verdict::Good
+}
+
+// Whether a channel's contact index names a contact of the channel's mode.
+fn names_contact(f: &[u8], mode: u8, c: ContactIndex) -> bool
+    ensures { λ r. ⌜ r ≡ namesContact (now (f .entry)) mode c ⌝ }
+{
+    match c {
+        ContactIndex::Nobody => true,
+        ContactIndex::Index(i) => {
+            let at = i as usize;
+            at < contact_count(f) && byte_at(f, contact_place(at) + 32) == mode
+        }
+    }
+}
+
+pub fn index_ok(f: &[u8], s: &[u8]) -> bool
+    ensures { λ r. ⌜ r ≡ indexOk (now (f .entry)) (now (s .entry)) ⌝ }
+{
+    names_contact(f, byte_at(s, 0), named_contact(s))
+}
+
+// The channel at p.
+pub fn channel_at(f: &[u8], p: usize) -> Verdict
+    requires { ⌜ p < 2 ^ 62 ⌝ }
+    ensures { λ r. ⌜ r ≡ channelAt (now (f .entry)) p ⌝ }
+{
+    let s = lend(f, p, 90);
+    channel::judge::judge(s, p, index_ok(f, s))
+}
+
+pub fn judge_channels(f: &[u8]) -> Verdict
+    ensures { λ r. ⌜ r ≡ channelsRule (now (f .entry)) ⌝ }
+{
+    let channels = channel_count(f);
+    let mut i = 0;
+    let mut p = channel_place(f, 0);
+    while i < channels {
+        let v = channel_at(f, p);
+        if let Verdict::Refused(_, _) = v {
+            return v;
+        }
+        i += 1;
+        p += 90;
+    }
+    Verdict::Good
+}

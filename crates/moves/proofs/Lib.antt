@@ -1,0 +1,2 @@
+-- Laws of the definitions, for the proofs here and for callers.
+pub mod Laws

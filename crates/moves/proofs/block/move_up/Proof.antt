@@ -1,0 +1,77 @@
+-- From the last byte on: at index i, the block from its byte i on stands at its place.
+use native.Mathlib.Omega.{arith}
+use Prim.Native.Nat.{_+_, _-_, _≤_}
+use mathlib.Core.Path.{_≡_}
+use lib.ListN.{length, length-set}
+use Rattle.fields.specs.Bytes.{over, part}
+use Rattle.moves.proofs.Laws.{up-turn, up-none, up-all}
+use Rattle.moves.proofs.block.move_up.Statement.{statement}
+use Rattle.moves.proofs.block.move_up.Tie as tie
+
+abbrev Inv-loop : tie.InvT-loop
+Inv-loop d₀ from n by i₀ d i = (i ≤ n) × ((length d ≡ length d₀) × (d ≡ over d₀ (from + by + i) (part d₀ (from + i) (n - i))))
+
+abbrev μ-loop : tie.MeasureT-loop
+μ-loop d₀ from n by i₀ d i = i
+
+loop-holds : tie.Need-loop-holds Inv-loop μ-loop
+loop-holds c = (omega arith, (omega arith, up-none _ _ (c .args .from + c .args .n) (c .args .n)))
+
+sub-i : tie.Need-sub-i Inv-loop μ-loop
+sub-i c = omega arith
+
+add-d : tie.Need-add-d Inv-loop μ-loop
+add-d c = omega arith
+
+slice-read-d : tie.Need-slice-read-d Inv-loop μ-loop
+slice-read-d c = omega arith
+
+add-d-2 : tie.Need-add-d-2 Inv-loop μ-loop
+add-d-2 c = omega arith
+
+add-d-3 : tie.Need-add-d-3 Inv-loop μ-loop
+add-d-3 c = omega arith
+
+slice-write-d : tie.Need-slice-write-d Inv-loop μ-loop
+slice-write-d c = omega arith
+
+loop-less : tie.Need-loop-less Inv-loop μ-loop
+loop-less c = omega arith
+
+loop-again : tie.Need-loop-again Inv-loop μ-loop
+loop-again c =
+    let e = c .before .before .before .args in
+    let l = c .before .before .loop in (
+      omega arith,
+      (
+        simp length-set (omega arith),
+        up-turn (l .d) (e .d .now) (e .from) (e .by) (e .n) (l .i) (l .inv .1 .1) (omega arith) (omega arith) (omega arith),
+      ),
+    )
+
+same-length : tie.Need-same-length Inv-loop μ-loop
+same-length c = omega arith
+
+returns : tie.Need-returns Inv-loop μ-loop
+returns c =
+    let e = c .before .before .args in
+    let l = c .before .loop in
+    up-all (l .d) (e .d .now) (e .from + e .by) (e .from) (e .n) (l .i) (l .inv .1 .1) (omega arith)
+
+pub move-up-spec : {M : Type 1} → statement M
+move-up-spec =
+    tie.close
+    (tie.spec
+    Inv-loop
+    μ-loop
+    loop-holds
+    sub-i
+    add-d
+    slice-read-d
+    add-d-2
+    add-d-3
+    slice-write-d
+    loop-less
+    loop-again
+    same-length
+    returns)
