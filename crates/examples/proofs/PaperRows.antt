@@ -1,0 +1,48 @@
+-- Document 01, "Examples": the rows marked P, in its order, as one statement over the definitions. Each side computes, so `refl` proves
+-- it.
+use Prim.Native.Nat.{ℕ}
+use mathlib.Core.Path.{_≡_, refl}
+use mathlib.Core.List.{List, [], _∷_, _++_}
+use lib.ListN.{replicate}
+use Rattle.fields.specs.Bytes.{zeros}
+use Rattle.fields.specs.Rule.{fieldOf, unless, _then_}
+use Rattle.fields.specs.declared.rule.Verdict.{Verdict}
+use Rattle.fields.specs.declared.rule.Verdict.the-variants as verdict
+use Rattle.channel.specs.Channel.{fmRule}
+use Rattle.m17.specs.Address.{encoding, decoding, addressOf, digitOf, firstForeign, foreign, endsInSpace, within, isCallsign, textFor, textUpTo, charOf}
+use Rattle.m17.specs.declared.Encoded.{Encoded}
+use Rattle.m17.specs.declared.Encoded.the-variants as encoded
+use Rattle.m17.specs.declared.Decoded.{Decoded}
+use Rattle.m17.specs.declared.Decoded.the-variants as decoded
+use Rattle.tones.specs.Tone.{toneOf, toneOk, toneIndex, frequencyOf, toneTable}
+use Rattle.tones.specs.declared.Tone.{Tone}
+use Rattle.tones.specs.declared.Tone.the-variants.{Enabled, Disabled}
+use Rattle.tones.specs.declared.Frequency.{Frequency}
+use Rattle.tones.specs.declared.Frequency.the-variants.{Tenths}
+
+-- a tone byte and what it means: the tone, and its frequency in tenths of a hertz
+abbrev Means : ℕ → Tone → ℕ → Type 0
+Means b t f = (toneOf b ≡ t) × (frequencyOf (toneIndex t) ≡ Tenths f)
+
+-- an FM channel's bytes, zero but for its receive tone
+abbrev withTone : ℕ → List ℕ
+withTone b = zeros 85 ++ (b ∷ zeros 4)
+
+-- "A", "AB1CD", space A, A space, nine dots, 40^9, the empty text; tones 0x1F, 0x8E, 0x31 and 0x32
+abbrev pub Rows : Type 0
+Rows =
+    (encoding (65 ∷ []) ≡ encoded.Number 1)
+    × (encoding (65 ∷ 66 ∷ 49 ∷ 67 ∷ 68 ∷ []) ≡ encoded.Number 10_476_881)
+    × (encoding (32 ∷ 65 ∷ []) ≡ encoded.Number 40)
+    × (encoding (65 ∷ 32 ∷ []) ≡ encoded.Refused 22 0)
+    × (encoding (replicate 9 46) ≡ encoded.Number 262_143_999_999_999)
+    × (decoding 9 262_144_000_000_000 ≡ decoded.Refused 23 0)
+    × (encoding [] ≡ encoded.Refused 20 0)
+    × Means 0x1F (Disabled 31) 1738
+    × Means 0x8E (Enabled 14) 1072
+    × (fmRule (withTone 0x31) 0 ≡ verdict.Good)
+    × (fmRule (withTone 0x32) 0 ≡ verdict.Refused 7 85)
+
+pub paper-rows : Rows
+unfolding encoding decoding addressOf digitOf firstForeign foreign endsInSpace within isCallsign textFor textUpTo charOf toneOf toneOk toneIndex frequencyOf toneTable zeros unless fieldOf _then_ fmRule
+paper-rows = (refl, refl, refl, refl, refl, refl, refl, (refl, refl), (refl, refl), refl, refl)
