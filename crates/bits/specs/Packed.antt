@@ -17,7 +17,7 @@ choiceByte c = c .number * 64 + cond (c .flag) 32 0
 unfoldable pub choiceOk : ℕ → Bool
 choiceOk b = leb (b / 64) 2 && eqb (b % 32) 0
 
--- a choice that a byte can hold
+-- a number that the rule allows
 unfoldable pub choiceGood : Choice → Bool
 choiceGood c = leb (c .number) 2
 

@@ -8,7 +8,7 @@ use lib.Dec.{leb, eqb}
 use lib.IntN.{ℤ, pos, negsuc}
 use Rattle.fields.specs.Bytes.{part, num, littleBytes, zeros}
 use Rattle.fields.specs.Text.{textOk, givenOk, padded}
-use Rattle.fields.specs.Rule.{_then_, unless, field, written}
+use Rattle.fields.specs.Rule.{_then_, unless, field, inside, written}
 use Rattle.fields.specs.declared.rule.Verdict.{Verdict}
 use Rattle.fields.specs.declared.rule.Verdict.the-variants.{Good, Refused}
 use Rattle.bits.specs.Packed.{choiceOf, choiceByte, choiceOk, choiceGood, halvesOf, halvesByte, halvesGood, signedOf, signedByte}
@@ -28,7 +28,7 @@ use Rattle.channel.specs.declared.Info.the-variants.{Fm, Dmr, M17}
 use Rattle.channel.specs.declared.Channel.{Channel}
 use Rattle.channel.specs.declared.ChannelRead.{ChannelRead}
 
--- ---- values and their rules
+-- ---- values and their rules: `..Ok` speaks of what a file holds, `..Good` and `..Given` of a value that a writer is given
 
 -- 0 FM, 1 DMR, 2 M17
 unfoldable pub modeOk : ℕ → Bool
@@ -40,6 +40,13 @@ traitsOf b = record { bandwidth = choiceOf b .number; «receive_only» = choiceO
 
 unfoldable pub traitsChoice : Traits → Choice
 traitsChoice t = record { number = t .bandwidth; flag = t .«receive_only» }
+
+-- scan list 0 to 250, group list 0 to 128
+abbrev pub scanListOk : ℕ → Bool
+scanListOk x = leb x 250
+
+abbrev pub groupListOk : ℕ → Bool
+groupListOk x = leb x 128
 
 -- latitude floor: a signed byte, -90 to 90 (negsuc n is -(n + 1))
 unfoldable pub latitudeOk : ℤ → Bool
@@ -76,7 +83,7 @@ unfoldable pub contactIndexNumber : ContactIndex → ℕ
 contactIndexNumber contact.Nobody = 65535
 contactIndexNumber (contact.Index x) = x
 
--- an index that is not the number of none
+-- an index that a writer may be given: 65,535 would read back as none
 unfoldable pub contactIndexGood : ContactIndex → Bool
 contactIndexGood contact.Nobody = true
 contactIndexGood (contact.Index x) = not (eqb x 65535)
@@ -87,11 +94,11 @@ unfoldable pub headRule : List ℕ → ℕ → Verdict
 headRule s base =
     field s base 0 1 6 (modeOk (getD s 0 0))
     then field s base 1 1 7 (choiceOk (getD s 1 0))
-    then field s base 2 1 7 true
-    then field s base 3 4 7 true
-    then field s base 7 4 7 true
-    then field s base 11 1 7 (leb (getD s 11 0) 250)
-    then field s base 12 1 7 (leb (getD s 12 0) 128)
+    then inside s base 2 1
+    then inside s base 3 4
+    then inside s base 7 4
+    then field s base 11 1 7 (scanListOk (getD s 11 0))
+    then field s base 12 1 7 (groupListOk (getD s 12 0))
 
 unfoldable pub textsRule : List ℕ → ℕ → Verdict
 textsRule s base =
@@ -103,9 +110,9 @@ unfoldable pub locationRule : List ℕ → ℕ → Verdict
 locationRule s base =
     field s base 77 1 7 (latitudeOk (signedOf (getD s 77 0)))
     then field s base 78 2 7 (latitudeFractionOk (signedOf (getD s 77 0)) (num s 78 2))
-    then field s base 80 1 7 true
+    then inside s base 80 1
     then field s base 81 2 7 (fractionOk (num s 81 2))
-    then field s base 83 2 7 true
+    then inside s base 83 2
 
 -- receive and transmit tone, three pads
 unfoldable pub fmRule : List ℕ → ℕ → Verdict
@@ -119,7 +126,7 @@ fmRule s base =
 -- colour codes (any), timeslot, contact index, pad. Whether the index names a contact of the file is the file's to say.
 unfoldable pub dmrRule : List ℕ → ℕ → Bool → Verdict
 dmrRule s base named =
-    field s base 85 1 7 true
+    inside s base 85 1
     then field s base 86 1 7 (slotOk (getD s 86 0))
     then field s base 87 2 9 named
     then field s base 89 1 7 (eqb (getD s 89 0) 0)
@@ -127,7 +134,7 @@ dmrRule s base named =
 -- access numbers (any), operation with encryption, position flag, contact index
 unfoldable pub m17Rule : List ℕ → ℕ → Bool → Verdict
 m17Rule s base named =
-    field s base 85 1 7 true
+    inside s base 85 1
     then field s base 86 1 7 (operationOk (halvesOf (getD s 86 0) .high) && encryptionOk (halvesOf (getD s 86 0) .low))
     then field s base 87 1 7 (leb (getD s 87 0) 1)
     then field s base 88 2 9 named
@@ -223,8 +230,8 @@ channelAnswer (Refused n p) s = record { verdict = Refused n p; channel = blankC
 unfoldable pub headGiven : Common → Verdict
 headGiven c =
     unless (choiceGood (traitsChoice (c .traits))) 7 1
-    then unless (leb (c .«scan_list») 250) 7 11
-    then unless (leb (c .«group_list») 128) 7 12
+    then unless (scanListOk (c .«scan_list»)) 7 11
+    then unless (groupListOk (c .«group_list»)) 7 12
 
 unfoldable pub locationGiven : Location → Verdict
 locationGiven l =
@@ -244,8 +251,8 @@ infoGiven (M17 i) =
     then unless (contactIndexGood (i .contact)) 9 88
 
 unfoldable pub channelGiven : ℕ → List ℕ → List ℕ → Common → Info → Verdict
-channelGiven room name description common info =
-    unless (leb 90 room) 25 0
+channelGiven size name description common info =
+    unless (leb 90 size) 25 0
     then headGiven common
     then unless (givenOk name) 5 13
     then unless (givenOk description) 5 45

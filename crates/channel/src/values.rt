@@ -39,7 +39,7 @@ pub fn fraction_ok(x: u16) -> bool
     x <= 9999
 }
 
-// Of a latitude's ten-thousandths over the floor's byte: none above 90.
+// Of a latitude's ten-thousandths, over the floor's byte: 0 to 9,999, and 0 where the floor is 90.
 pub fn latitude_fraction_ok(floor: u8, x: u16) -> bool
     ensures { λ r. ⌜ r ≡ latitudeFractionOk (signedOf floor) x ⌝ }
 {

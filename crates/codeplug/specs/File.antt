@@ -27,7 +27,7 @@ contactAt f p = contactRule (part f p 39) p
 unfoldable pub contactsRule : List ℕ → Verdict
 contactsRule f = each (contactAt f) (contactCount f) 39 (contactPlace 0)
 
--- ---- channels: a contact index below the contact count names a contact of the channel's own mode
+-- ---- channels: a contact index is 65,535, or below the contact count and names a contact of the channel's own mode
 
 unfoldable pub namesContact : List ℕ → ℕ → ContactIndex → Bool
 namesContact f mode Nobody = true

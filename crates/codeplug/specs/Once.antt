@@ -1,17 +1,18 @@
 -- Reading records of a file that was judged before, without judging it again. Any bytes are answered: 33 by the header's count, then
--- the record's own first bad field. Of an accepted file the answers are those of Read.antt (proofs/JudgedOnce.antt).
-use Prim.Native.Nat.{ℕ, _+_, _*_}
+-- the record's own first bad field; of a bank, its name and entry count. What the rest of a bad file would give is not looked for. Of an
+-- accepted file the answers are those of Read.antt (proofs/JudgedOnce.antt).
+use Prim.Native.Nat.{ℕ}
 use mathlib.Core.List.{List}
 use lib.Dec.{ltb}
-use Rattle.fields.specs.Bytes.{part, num}
+use Rattle.fields.specs.Bytes.{part}
 use Rattle.fields.specs.Rule.{_then_, unless}
 use Rattle.fields.specs.declared.rule.Verdict.{Verdict}
 use Rattle.contact.specs.Contact.{contactAnswer}
 use Rattle.contact.specs.declared.ContactRead.{ContactRead}
 use Rattle.channel.specs.Channel.{channelAnswer}
 use Rattle.channel.specs.declared.ChannelRead.{ChannelRead}
-use Rattle.layout.specs.Places.{contactCount, channelCount, bankCount, contactPlace, channelPlace, offsetPlace, banksPlace}
-use Rattle.layout.specs.Banks.{offsetAt, bankHead}
+use Rattle.layout.specs.Places.{contactCount, channelCount, bankCount, contactPlace, channelPlace, offsetPlace}
+use Rattle.layout.specs.Banks.{offsetAt, offsetTarget, bankHead}
 use Rattle.codeplug.specs.File.{contactAt, channelAt}
 use Rattle.codeplug.specs.Read.{bankAnswer, entriesAnswer}
 use Rattle.codeplug.specs.declared.BankRead.{BankRead}
@@ -26,7 +27,7 @@ channelOnce f n =
 
 -- where the offset table says that bank n starts
 unfoldable pub tablePlace : List ℕ → ℕ → ℕ
-tablePlace f n = banksPlace f + num f (offsetPlace f n) 4
+tablePlace f n = offsetTarget f (offsetPlace f n)
 
 unfoldable pub bankOnceRule : List ℕ → ℕ → Verdict
 bankOnceRule f n =

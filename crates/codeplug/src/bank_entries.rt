@@ -9,7 +9,8 @@ use layout::places::lend;
 use layout::places::offset_place;
 ghost use mathlib.Core.Path.{_≡_};
 ghost use Prim.Native.Nat.{_<_, _^_};
-ghost use Rattle.codeplug.specs.Read.{entriesAnswer, entriesRead, entryRead};
+ghost use Rattle.codeplug.specs.Read.{entriesAnswer, entriesRead, entryRead, placeRule};
+ghost use Rattle.layout.specs.Places.{bankCount};
 
 // The bytes of a bank's entries, none beside a refusal.
 pub fn entries_of(verdict: Verdict, f: &[u8], p: usize) -> &[u8]
@@ -20,6 +21,13 @@ pub fn entries_of(verdict: Verdict, f: &[u8], p: usize) -> &[u8]
         return &f[..0];
     }
     lend(f, p + 34, entry_count(f, p) * 2)
+}
+
+// Why bank n has no entries to read: the file's refusal, then 33.
+pub fn verdict(f: &[u8], n: usize) -> Verdict
+    ensures { λ r. ⌜ r ≡ placeRule (now (f .entry)) n (bankCount (now (f .entry))) ⌝ }
+{
+    place(f, n, bank_count(f))
 }
 
 // The bytes of bank n's entries in an accepted file; none where the file or the place is refused.

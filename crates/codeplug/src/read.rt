@@ -136,7 +136,7 @@ pub fn bank_answer(verdict: Verdict, s: &[u8]) -> BankRead
     }
 }
 
-// Of an accepted file the offset table leads to each bank.
+// The name and entry count of bank n. Of an accepted file the offset table leads to each bank.
 pub fn bank(f: &[u8], n: usize) -> BankRead
     ensures { λ r. ⌜ r ≡ bankRead (now (f .entry)) n ⌝ }
 {

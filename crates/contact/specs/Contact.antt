@@ -7,7 +7,7 @@ use lib.ListN.{length, getD}
 use lib.Dec.{leb, eqb}
 use Rattle.fields.specs.Bytes.{part, num, big, littleBytes, bigBytes, zeros}
 use Rattle.fields.specs.Text.{textOk, givenOk, padded}
-use Rattle.fields.specs.Rule.{_then_, unless, field, written}
+use Rattle.fields.specs.Rule.{_then_, unless, field, inside, written}
 use Rattle.fields.specs.declared.rule.Verdict.{Verdict}
 use Rattle.fields.specs.declared.rule.Verdict.the-variants.{Good, Refused}
 use Rattle.bits.specs.Packed.{choiceOf, choiceByte, choiceOk, choiceGood}
@@ -35,7 +35,7 @@ modeOk m = eqb m 1 || eqb m 2
 
 unfoldable pub dmrRule : List ℕ → ℕ → Verdict
 dmrRule s base =
-    field s base 33 4 7 true
+    inside s base 33 4
     then field s base 37 1 7 (choiceOk (getD s 37 0))
     then field s base 38 1 7 (eqb (getD s 38 0) 0)
 
@@ -60,7 +60,7 @@ infoOf s =
 unfoldable pub contactOf : List ℕ → Contact
 contactOf s = record { name = part s 0 32; info = infoOf s }
 
--- what stands beside a refusal: no name, DMR id 0
+-- what stands beside a refusal: no name, DMR id 0, type 0 (group), rx tone off
 unfoldable pub blankContact : Contact
 blankContact = record { name = zeros 32; info = Dmr (record { id = 0; settings = record { kind = 0; «rx_tone» = false } }) }
 
@@ -76,15 +76,20 @@ infoGiven (M17 a) = unless (addressGood a) 8 33
 infoGiven (Dmr d) = unless (choiceGood (settingsChoice (d .settings))) 7 37
 
 unfoldable pub contactGiven : ℕ → List ℕ → ContactInfo → Verdict
-contactGiven room name info =
-    unless (leb 39 room) 25 0
+contactGiven size name info =
+    unless (leb 39 size) 25 0
     then unless (givenOk name) 5 0
     then infoGiven info
 
--- a contact's info by the paper's numbers: the mode, and the bytes behind it
+-- a contact's mode by the paper's number
+abbrev pub modeNumber : ContactInfo → ℕ
+modeNumber (Dmr d) = 1
+modeNumber (M17 a) = 2
+
+-- the mode and the bytes behind it
 unfoldable pub infoBytes : ContactInfo → List ℕ
-infoBytes (M17 a) = 2 ∷ bigBytes 6 (addressNumber a)
-infoBytes (Dmr d) = 1 ∷ (littleBytes 4 (d .id) ++ (choiceByte (settingsChoice (d .settings)) ∷ (0 ∷ [])))
+infoBytes (M17 a) = modeNumber (M17 a) ∷ bigBytes 6 (addressNumber a)
+infoBytes (Dmr d) = modeNumber (Dmr d) ∷ (littleBytes 4 (d .id) ++ (choiceByte (settingsChoice (d .settings)) ∷ (0 ∷ [])))
 
 unfoldable pub contactBytes : List ℕ → ContactInfo → List ℕ
 contactBytes name info = padded name ++ infoBytes info

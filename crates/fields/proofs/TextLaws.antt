@@ -7,7 +7,7 @@ use mathlib.Core.List.{List, [], _∷_, _++_}
 use native.Mathlib.Nat.{add-zero}
 use native.Mathlib.Numerals.{add-one}
 use native.Mathlib.Omega.{arith}
-use borrow.Author.Tests.{leb-true, leb-false, le-leb, lt-leb, le-ltb, lt-ltb, ne-eqb, eqb-true}
+use borrow.Author.Tests.{leb-true, leb-false, le-leb, lt-leb, le-ltb, lt-ltb, eq-eqb, ne-eqb, eqb-true}
 use mir.Val.{boolByte}
 use lib.Dec.{leb, eqb, ltb}
 use lib.ListN.{length, drop, getD, length-append, length-replicate, drop-of-length-le}
@@ -286,3 +286,17 @@ scan-end s i faults prev h inv = sym (inv ∙ rw (drop-of-length-le s {i = i} h,
     at : (t : Bool) → cond t true false ≡ t
     at true = refl
     at false = refl
+
+-- ---- how long a field's text is, counted from the front
+
+pub text-more : (s : List ℕ) (i : ℕ) → i < length s → (getD s i 0 ≡ 0 → ⊥) → length (textOf (drop i s)) ≡ suc (length (textOf (drop (suc i) s)))
+unfolding textOf
+text-more s i h z = rw (drop-cons s i 0 h, ne-eqb (getD s i 0) 0 z)
+
+pub text-stop : (s : List ℕ) (i : ℕ) → i < length s → getD s i 0 ≡ 0 → length (textOf (drop i s)) ≡ 0
+unfolding textOf
+text-stop s i h z = rw (drop-cons s i 0 h, eq-eqb (getD s i 0) 0 z)
+
+pub text-end : (s : List ℕ) (i : ℕ) → length s ≤ i → length (textOf (drop i s)) ≡ 0
+unfolding textOf
+text-end s i h = rw (drop-of-length-le s h)

@@ -19,14 +19,18 @@ unfoldable pub unless : Bool → ℕ → ℕ → Verdict
 unless true number place = Good
 unless false number place = Refused number place
 
--- the field of n bytes at k of a record with so many bytes left, which starts at base: 2 where it is not wholly inside, then the
--- number where its value is outside its rule
+-- the field of n bytes at k of a record that starts at base and of which `left` bytes are inside the file: 2 where the field is not
+-- wholly inside, then its number where its value is outside its rule
 unfoldable pub fieldOf : ℕ → ℕ → ℕ → ℕ → ℕ → Bool → Verdict
 fieldOf left base k n number ok = cond (leb (k + n) left) (unless ok number (base + k)) (Refused 2 (base + k))
 
 -- the same of a record's bytes s, fewer than the record has where the file ends
 abbrev pub field : List ℕ → ℕ → ℕ → ℕ → ℕ → Bool → Verdict
 field s base k n number ok = fieldOf (length s) base k n number ok
+
+-- a field of any value: only 2 can be given
+abbrev pub inside : List ℕ → ℕ → ℕ → ℕ → Verdict
+inside s base k n = field s base k n 7 true
 
 -- n records of w bytes from place p on
 unfoldable pub each : (ℕ → Verdict) → ℕ → ℕ → ℕ → Verdict

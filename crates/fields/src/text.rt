@@ -6,7 +6,7 @@ ghost use Prim.Native.Nat.{_+_, _<_, _≤_, _^_};
 ghost use lib.ListN.{length};
 ghost use lib.Dec.{eqb};
 ghost use Rattle.fields.specs.Bytes.{part};
-ghost use Rattle.fields.specs.Text.{textOk, givenOk, plainText};
+ghost use Rattle.fields.specs.Text.{textOk, textOf, givenOk, plainText};
 ghost use Rattle.fields.specs.Rule.{field};
 ghost use Rattle.fields.specs.TextScan.{stepFault};
 
@@ -70,4 +70,18 @@ pub fn given_ok(s: &[u8]) -> bool
         return false;
     }
     plain_text(s)
+}
+
+// How long the text of a field is: what stands before its first zero.
+pub fn text_length(s: &[u8]) -> usize
+    ensures { λ r. ⌜ r ≡ length (textOf (now (s .entry))) ⌝ }
+{
+    let mut i = 0;
+    while i < s.len() {
+        if s[i] == 0 {
+            return i;
+        }
+        i += 1;
+    }
+    i
 }

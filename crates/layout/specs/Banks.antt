@@ -6,7 +6,7 @@ use lib.ListN.{length}
 use lib.Dec.{leb, ltb, eqb}
 use Rattle.fields.specs.Bytes.{part, num}
 use Rattle.fields.specs.Text.{textOk}
-use Rattle.fields.specs.Rule.{_then_, unless, field, each}
+use Rattle.fields.specs.Rule.{_then_, unless, field, inside, each}
 use Rattle.fields.specs.declared.rule.Verdict.{Verdict}
 use Rattle.layout.specs.Places.{channelCount, bankCount, offsetPlace, banksPlace}
 
@@ -26,16 +26,20 @@ entryAt f p = field (part f p 2) p 0 2 11 (ltb (num f p 2) (channelCount f))
 unfoldable pub entryCount : List ℕ → ℕ → ℕ
 entryCount f p = num f (p + 32) 2
 
+-- where the offset at t leads: offsets count from the first byte after the table
+abbrev pub offsetTarget : List ℕ → ℕ → ℕ
+offsetTarget f t = banksPlace f + num f t 4
+
 -- a bank's name and entry count
 unfoldable pub bankHead : List ℕ → ℕ → Verdict
 bankHead f p =
     field (part f p 34) p 0 32 5 (textOk (part f p 32))
-    then field (part f p 34) p 32 2 7 true
+    then inside (part f p 34) p 32 2
 
--- the bank at p, whose offset stands at t and counts from the first byte after the table
+-- the bank at p, whose offset stands at t
 unfoldable pub bankAt : List ℕ → ℕ → ℕ → Verdict
 bankAt f t p =
-    unless (eqb (banksPlace f + num f t 4) p) 10 t
+    unless (eqb (offsetTarget f t) p) 10 t
     then bankHead f p
     then each (entryAt f) (entryCount f p) 2 (p + 34)
 

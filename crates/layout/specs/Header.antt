@@ -5,7 +5,7 @@ use mathlib.Core.List.{List}
 use lib.Dec.{eqb}
 use Rattle.fields.specs.Bytes.{part, num}
 use Rattle.fields.specs.Text.{textOk}
-use Rattle.fields.specs.Rule.{_then_, field}
+use Rattle.fields.specs.Rule.{_then_, field, inside}
 use Rattle.fields.specs.declared.rule.Verdict.{Verdict}
 
 -- magic 52 54 58 43 00 00 00 00, version 1, author, description
@@ -20,7 +20,7 @@ titleRule f =
 unfoldable pub headerRule : List ℕ → Verdict
 headerRule f =
     titleRule f
-    then field f 0 74 8 7 true
-    then field f 0 82 2 7 true
-    then field f 0 84 2 7 true
-    then field f 0 86 2 7 true
+    then inside f 0 74 8
+    then inside f 0 82 2
+    then inside f 0 84 2
+    then inside f 0 86 2

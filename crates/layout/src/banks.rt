@@ -18,10 +18,9 @@ use fields::text::text_field;
 ghost use mathlib.Core.Path.{_≡_};
 ghost use Prim.Native.Nat.{_+_, _*_, _<_, _≤_, _^_};
 ghost use lib.ListN.{length};
-ghost use Rattle.fields.specs.Bytes.{num};
 ghost use Rattle.fields.specs.Rule.{each};
-ghost use Rattle.layout.specs.Places.{banksPlace, channelCount};
-ghost use Rattle.layout.specs.Banks.{offsetAt, offsetsRule, entryAt, entryCount, bankHead, bankAt, nextBank, banksRule};
+ghost use Rattle.layout.specs.Places.{channelCount};
+ghost use Rattle.layout.specs.Banks.{offsetAt, offsetsRule, entryAt, entryCount, offsetTarget, bankHead, bankAt, nextBank, banksRule};
 
 // The offset at p is inside the file.
 pub fn offset_at(f: &[u8], p: usize) -> Verdict
@@ -95,7 +94,7 @@ pub fn bank_head(f: &[u8], p: usize) -> Verdict
 // Where the offset at t leads.
 pub fn offset_leads(f: &[u8], t: usize) -> usize
     requires { ⌜ t < 2 ^ 60 ⌝ }
-    ensures { λ r. ⌜ (r ≡ banksPlace (now (f .entry)) + num (now (f .entry)) t 4) × (r < 2 ^ 33) ⌝ }
+    ensures { λ r. ⌜ (r ≡ offsetTarget (now (f .entry)) t) × (r < 2 ^ 33) ⌝ }
 {
     banks_place(f) + le32(f, t) as usize
 }

@@ -15,7 +15,7 @@ use Rattle.m17.specs.declared.Address.{Address}
 use Rattle.m17.specs.declared.Address.the-variants.{Callsign, Broadcast}
 use Rattle.m17.specs.declared.Encoded.the-variants as encoded
 use Rattle.m17.specs.declared.Decoded.the-variants as decoded
-use Rattle.m17.specs.Address.{broadcast, decoding, decodedInto, within, digitOf, foreign, charOf, addressOf, firstForeign, endsInSpace, encoding, isCallsign, addressOk, textUpTo, textFor, addressNumber, addressFor, addressGood}
+use Rattle.m17.specs.Address.{broadcast, decoding, decodedBy, decodedInto, within, digitOf, foreign, charOf, addressOf, firstForeign, endsInSpace, encoding, isCallsign, addressOk, textUpTo, textFor, addressNumber, addressFor, addressGood}
 
 -- ---- a rule of every number below n, by one computed test
 
@@ -414,21 +414,21 @@ callsign-range n e =
     (leb-true 1 n (b .0), omega arith)
 
 pub decoding-short : (out : List ℕ) (n : ℕ) → length out < 9 → (decoded.Refused 24 0 ≡ decoding (length out) n) × (out ≡ decodedInto out n)
-unfolding decoding decodedInto
+unfolding decoding decodedInto decodedBy
 decoding-short out n h = simp (lt-ltb (length out) 9 h) (refl, refl)
 
 module _ (out : List ℕ) (n : ℕ) (room : 9 ≤ length out) where
   pub decoding-text : (bytes : List ℕ) (len : ℕ) → isCallsign n ≡ true → bytes ≡ textFor n ++ replicate (9 - length (textFor n)) 0 → len ≡ length (textFor n)
       → (decoded.Text len ≡ decoding (length out) n) × (bytes ++ drop 9 out ≡ decodedInto out n)
-  unfolding decoding decodedInto
+  unfolding decoding decodedInto decodedBy
   decoding-text bytes len e b l = rw (b, l, le-ltb (length out) 9 room, e) (refl, append-assoc (textFor n) (replicate (9 - length (textFor n)) 0) (drop 9 out))
 
   pub decoding-broadcast : isCallsign n ≡ false → n ≡ broadcast → (decoded.Broadcast ≡ decoding (length out) n) × (out ≡ decodedInto out n)
-  unfolding decoding decodedInto
+  unfolding decoding decodedInto decodedBy
   decoding-broadcast e b = rw (le-ltb (length out) 9 room, e, eq-eqb n broadcast b) (refl, refl)
 
   pub decoding-invalid : isCallsign n ≡ false → (n ≡ broadcast → ⊥) → (decoded.Refused 23 0 ≡ decoding (length out) n) × (out ≡ decodedInto out n)
-  unfolding decoding decodedInto
+  unfolding decoding decodedInto decodedBy
   decoding-invalid e b = rw (le-ltb (length out) 9 room, e, ne-eqb n broadcast b) (refl, refl)
 
 -- ---- the address enum

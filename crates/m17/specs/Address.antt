@@ -98,12 +98,14 @@ decoding room n =
     (cond (eqb n broadcast) decoded.Broadcast
     (decoded.Refused 23 0)))
 
--- what is left of the buffer: of a callsign the text and then zeros over the first nine bytes; otherwise all as lent
+-- the buffer after an answer: of a callsign the text and then zeros over the first nine bytes; otherwise all as lent
+unfoldable pub decodedBy : Decoded → List ℕ → ℕ → List ℕ
+decodedBy (decoded.Text len) out n = textFor n ++ (replicate (9 - length (textFor n)) 0 ++ drop 9 out)
+decodedBy decoded.Broadcast out n = out
+decodedBy (decoded.Refused number place) out n = out
+
 unfoldable pub decodedInto : List ℕ → ℕ → List ℕ
-decodedInto out n =
-    cond (not (ltb (length out) 9) && isCallsign n)
-    (textFor n ++ (replicate (9 - length (textFor n)) 0 ++ drop 9 out))
-    out
+decodedInto out n = decodedBy (decoding (length out) n) out n
 
 -- ---- the address enum, by this paper's numbers
 

@@ -122,9 +122,9 @@ pub fn is_callsign(n: u64) -> bool
 }
 
 // A callsign's text: its characters, zeros after them, and how many there are.
-pub struct Text {
-    pub bytes: [u8; 9],
-    pub len: usize,
+struct Text {
+    bytes: [u8; 9],
+    len: usize,
 }
 
 fn text_of(n: u64) -> Text

@@ -21,10 +21,13 @@ toneTable =
     1713 ∷ 1738 ∷ 1773 ∷ 1799 ∷ 1835 ∷ 1862 ∷ 1899 ∷ 1928 ∷ 1966 ∷ 1995 ∷
     2035 ∷ 2065 ∷ 2107 ∷ 2181 ∷ 2257 ∷ 2291 ∷ 2336 ∷ 2418 ∷ 2503 ∷ 2541 ∷ []
 
+abbrev pub inTable : ℕ → Bool
+inTable i = ltb i 50
+
 -- ---- a tone byte
 
 unfoldable pub toneOk : ℕ → Bool
-toneOk b = ltb (b % 128) 50
+toneOk b = inTable (b % 128)
 
 unfoldable pub toneOf : ℕ → Tone
 toneOf b = cond (leb 128 b) (Enabled (b % 128)) (Disabled (b % 128))
@@ -37,15 +40,15 @@ unfoldable pub toneByte : Tone → ℕ
 toneByte (Enabled i) = 128 + i
 toneByte (Disabled i) = i
 
--- a tone that a byte can hold
+-- a tone whose index is in the table
 unfoldable pub toneGood : Tone → Bool
-toneGood t = ltb (toneIndex t) 50
+toneGood t = inTable (toneIndex t)
 
 -- ---- what a tone means
 
 -- the frequency of an index, in tenths of a hertz
 unfoldable pub frequencyOf : ℕ → Frequency
-frequencyOf i = cond (ltb i 50) (frequency.Tenths (getD toneTable i 0)) frequency.NoTone
+frequencyOf i = cond (inTable i) (frequency.Tenths (getD toneTable i 0)) frequency.NoTone
 
 -- the index of a frequency, from index i on
 unfoldable pub indexFrom : ℕ → List ℕ → ℕ → ToneIndex

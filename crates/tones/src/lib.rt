@@ -2,7 +2,7 @@
 ghost use mathlib.Core.Path.{_≡_};
 ghost use mathlib.Core.Bool.{true};
 ghost use Prim.Native.Nat.{_+_, _<_, _≤_};
-ghost use Rattle.tones.specs.Tone.{toneOk, toneOf, toneByte, toneGood, frequencyOf, indexOf};
+ghost use Rattle.tones.specs.Tone.{toneOk, toneOf, toneByte, toneGood, toneIndex, frequencyOf, indexOf};
 
 // A tone by its index in the table. A disabled tone keeps its index: a blank tone is Disabled(0), never Enabled(0).
 pub enum Tone {
@@ -110,6 +110,16 @@ pub fn tone_good(t: Tone) -> bool
     match t {
         Tone::Enabled(i) => i < 50,
         Tone::Disabled(i) => i < 50,
+    }
+}
+
+// A tone's index, enabled or not.
+pub fn index_in(t: Tone) -> u8
+    ensures { λ r. ⌜ r ≡ toneIndex t ⌝ }
+{
+    match t {
+        Tone::Enabled(i) => i,
+        Tone::Disabled(i) => i,
     }
 }
 

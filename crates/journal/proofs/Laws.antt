@@ -1,0 +1,763 @@
+-- Laws of the history: numbers, entries and the runs of entries that are kept, out of their bytes and back.
+use Prim.Native.Nat.{ℕ, zero, suc, _+_, _*_, _-_, _/_, _%_, _^_, _≤_, _<_}
+use mathlib.Core.Path.{_≡_, refl, ap, sym, _∙_}
+use mathlib.Core.Bool.{Bool, true, false, true≢false, cond, not, _&&_}
+use mathlib.Core.Logic.{_⊎_, inl, inr, ⊎-elim}
+use mathlib.Core.List.{List, [], _∷_, _++_, append-assoc, append-nil}
+use native.Mathlib.Omega.{arith}
+use native.Mathlib.Numerals.{add-one}
+use native.Mathlib.Nat.{pow-succ', one-le-pow, div-div-eq-div-mul}
+use lib.ListN.{length, take, drop, length-append, length-drop, take-append-drop}
+use lib.Seq.{drop-drop, drop-append-seam, drop-append-add, take-append-seam}
+use lib.Dec.{leb, ltb, eqb}
+use borrow.Author.Tests.{lt-ltb, le-ltb, ltb-true, ltb-false, le-leb, lt-leb, leb-true, ne-eqb}
+use Rattle.fields.specs.Bytes.{part}
+use Rattle.fields.proofs.Laws.{AllBytes, bytes-nil, bytes-cons, bytes-drop, bytes-part, bytes-append, part-at, length-part}
+use Rattle.journal.specs.Number.{groups, numberBytes, withGroup, groupsAt, atMost, numberAt}
+use Rattle.journal.specs.Entry.{Entry, entryBytes, entrySize, historyBytes, Front, front, none, withOld, withPut, withPlace}
+use Rattle.journal.specs.Entry.{frontOf, restOf, Entries, whole, broken, before, entriesUpTo, entriesOf}
+use Rattle.journal.specs.History.{kept, recorded}
+use Rattle.journal.specs.declared.number.NumberRead.{NumberRead}
+use Rattle.journal.specs.declared.number.NumberRead.the-variants.{Number, Broken}
+
+-- ---- groups of seven bits, one at a time
+
+groups-last : (n x : ℕ) → x < 128 → groups (suc n) x ≡ x ∷ []
+unfolding groups
+groups-last n x h = rw (lt-ltb x 128 h)
+
+groups-more : (n x : ℕ) → 128 ≤ x → groups (suc n) x ≡ (128 + x % 128) ∷ groups n (x / 128)
+unfolding groups
+groups-more n x h = rw (le-ltb x 128 h)
+
+pub at-last : (n : ℕ) (alone : Bool) (b : ℕ) (s : List ℕ) → b < 128 → eqb b 0 && not alone ≡ false
+    → groupsAt (suc n) alone (b ∷ s) ≡ Number b 1
+unfolding groupsAt
+at-last n alone b s h g = rw (lt-ltb b 128 h, g)
+
+pub at-zero : (n : ℕ) (alone : Bool) (b : ℕ) (s : List ℕ) → b < 128 → eqb b 0 && not alone ≡ true
+    → groupsAt (suc n) alone (b ∷ s) ≡ Broken
+unfolding groupsAt
+at-zero n alone b s h g = rw (lt-ltb b 128 h, g)
+
+pub at-more : (n : ℕ) (alone : Bool) (b : ℕ) (s : List ℕ) → 128 ≤ b
+    → groupsAt (suc n) alone (b ∷ s) ≡ withGroup (b - 128) (groupsAt n false s)
+unfolding groupsAt
+at-more n alone b s h = rw (le-ltb b 128 h)
+
+pub with-group : (low x n : ℕ) → withGroup low (Number x n) ≡ Number (low + 128 * x) (n + 1)
+unfolding withGroup
+with-group low x n = refl
+
+pub and-false : (t u : Bool) → t ≡ false → t && u ≡ false
+and-false t u h = rw h
+
+below-by : (x n : ℕ) (t : Bool) → ltb x n ≡ t → (x < n) ⊎ (n ≤ x)
+below-by x n true e = inl (ltb-true x n e)
+below-by x n false e = inr (ltb-false x n e)
+
+pub below-or : (x n : ℕ) → (x < n) ⊎ (n ≤ x)
+below-or x n = below-by x n (ltb x n) refl
+
+above-zero : (y : ℕ) → eqb y 0 && not false ≡ false → 1 ≤ y
+above-zero zero h = absurd (true≢false h)
+above-zero (suc y) h = omega arith
+
+-- what was written is read again
+groups-again : (n x : ℕ) (alone : Bool) (s : List ℕ) → x < 128 ^ suc n → eqb x 0 && not alone ≡ false
+    → groupsAt (suc n) alone (groups (suc n) x ++ s) ≡ Number x (length (groups (suc n) x))
+groups-again zero x alone s h g =
+    let lo : x < 128 = h in
+    rw (groups-last 0 x lo, at-last 0 alone x s lo g)
+groups-again (suc n) x alone s h g =
+    ⊎-elim
+    (λ lo. rw (groups-last (suc n) x lo, at-last (suc n) alone x s lo g))
+    (λ hi.
+    let b : 128 ≤ 128 + x % 128 = omega arith in
+    let f : x < 128 * 128 ^ suc n = rw pow-succ' at h in
+    let small : x / 128 < 128 ^ suc n = omega arith in
+    let some : x / 128 ≡ 0 → ⊥ = λ z. omega arith in
+    let r : groupsAt (suc n) false (groups (suc n) (x / 128) ++ s) ≡ Number (x / 128) (length (groups (suc n) (x / 128))) =
+    groups-again n (x / 128) false s small (and-false (eqb (x / 128) 0) true (ne-eqb (x / 128) 0 some))
+    in
+    let l : 128 + x % 128 - 128 ≡ x % 128 = omega arith in
+    let d : x % 128 + 128 * (x / 128) ≡ x = omega arith in
+    rw (groups-more (suc n) x hi, at-more (suc n) alone (128 + x % 128) (groups (suc n) (x / 128) ++ s) b, r, l, with-group, d, add-one))
+    (below-or x 128)
+
+record Groups (n : ℕ) (alone : Bool) (s : List ℕ) (x m : ℕ) : Type 0 where
+  bytes : take m s ≡ groups n x
+  size : m ≡ length (groups n x)
+  inside : m ≤ length s
+  small : x < 128 ^ n
+  shortest : eqb x 0 && not alone ≡ false
+
+never : {A : Type 0} (x n : ℕ) → Broken ≡ Number x n → A
+never x n e = let z : _≡_ {A = ℕ} 0 1 = cc in absurd (omega arith)
+
+one-group : (n : ℕ) (alone : Bool) (b : ℕ) (s : List ℕ) (x m : ℕ) (t : Bool) → b < 128 → eqb b 0 && not alone ≡ t
+    → groupsAt (suc n) alone (b ∷ s) ≡ Number x m → Groups (suc n) alone (b ∷ s) x m
+one-group n alone b s x m true h z e = never x m (sym (at-zero n alone b s h z) ∙ e)
+one-group n alone b s x m false h z e =
+    let f : Number b 1 ≡ Number x m = sym (at-last n alone b s h z) ∙ e in
+    let p : b ≡ x = cc in
+    let q : 1 ≡ m = cc in
+    let g : 1 ≤ 128 ^ n = one-le-pow n 128 (omega arith) in
+    rw (← p, ← q) (record {
+      bytes = sym (groups-last n b h);
+      size = rw (groups-last n b h);
+      inside = omega arith;
+      small = rw pow-succ' (omega arith);
+      shortest = z;
+    })
+
+more-groups : (n : ℕ) (alone : Bool) (b : ℕ) (s : List ℕ) (y k : ℕ) → 128 ≤ b → b < 256 → Groups n false s y k
+    → Groups (suc n) alone (b ∷ s) (b - 128 + 128 * y) (k + 1)
+more-groups n alone b s y k h f g =
+    let x = b - 128 + 128 * y in
+    let some : 1 ≤ y = above-zero y (g .shortest) in
+    let hi : 128 ≤ x = omega arith in
+    let low : 128 + x % 128 ≡ b = omega arith in
+    let high : x / 128 ≡ y = omega arith in
+    let nz : x ≡ 0 → ⊥ = λ z. omega arith in
+    let whole : groups (suc n) x ≡ b ∷ groups n y = rw (groups-more n x hi, low, high) in
+    record {
+      bytes = rw (add-one, whole, g .bytes);
+      size = rw (whole, ← (g .size), add-one);
+      inside = omega (arith, g .inside);
+      small = rw pow-succ' (omega (arith, g .small));
+      shortest = and-false (eqb x 0) (not alone) (ne-eqb x 0 nz);
+    }
+
+-- what is read is what is written
+read-more : (n : ℕ) (alone : Bool) (b : ℕ) (s : List ℕ) (x m : ℕ) (r : NumberRead) → 128 ≤ b → b < 256
+    → ((y k : ℕ) → r ≡ Number y k → Groups n false s y k) → withGroup (b - 128) r ≡ Number x m → Groups (suc n) alone (b ∷ s) x m
+unfolding withGroup
+read-more n alone b s x m (Number y k) h f i e =
+    let p : b - 128 + 128 * y ≡ x = cc in
+    let q : k + 1 ≡ m = cc in
+    rw (← p, ← q) (more-groups n alone b s y k h f (i y k refl))
+read-more n alone b s x m Broken h f i e = never x m e
+
+groups-read : (n : ℕ) (alone : Bool) (s : List ℕ) (x m : ℕ) → AllBytes s → groupsAt n alone s ≡ Number x m → Groups n alone s x m
+groups-read zero alone s x m h e = never x m (unfold groupsAt in e)
+groups-read (suc n) alone [] x m h e = never x m (unfold groupsAt in e)
+groups-read (suc n) alone (b ∷ s) x m h e =
+    ⊎-elim
+    (λ lo. one-group n alone b s x m (eqb b 0 && not alone) lo refl e)
+    (λ hi.
+    read-more n alone b s x m (groupsAt n false s) hi (h 0) (λ y k f. groups-read n false s y k (λ i. h (suc i)) f)
+    (sym (at-more n alone b s hi) ∙ e))
+    (below-or b 128)
+
+-- where a number that is read lies, whatever the elements are
+inside-more : (n : ℕ) (s : List ℕ) (low x m : ℕ) (r : NumberRead)
+    → ((y k : ℕ) → r ≡ Number y k → ((1 ≤ k) × (k ≤ n)) × (k ≤ length s)) → withGroup low r ≡ Number x m
+    → ((1 ≤ m) × (m ≤ suc n)) × (m ≤ suc (length s))
+unfolding withGroup
+inside-more n s low x m (Number y k) i e =
+    let q : k + 1 ≡ m = cc in
+    let j = i y k refl in
+    omega arith
+inside-more n s low x m Broken i e = never x m e
+
+inside-one : (b x m n k : ℕ) (t : Bool) → cond t Broken (Number b 1) ≡ Number x m → ((1 ≤ m) × (m ≤ suc n)) × (m ≤ suc k)
+inside-one b x m n k true e = never x m e
+inside-one b x m n k false e = let q : 1 ≡ m = cc in omega arith
+
+groups-inside : (n : ℕ) (alone : Bool) (s : List ℕ) (x m : ℕ) → groupsAt n alone s ≡ Number x m → ((1 ≤ m) × (m ≤ n)) × (m ≤ length s)
+unfolding groupsAt
+groups-inside zero alone s x m e = never x m e
+groups-inside (suc n) alone [] x m e = never x m e
+groups-inside (suc n) alone (b ∷ s) x m e =
+    ⊎-elim
+    (λ lo. inside-one b x m n (length s) (eqb b 0 && not alone) (rw (lt-ltb b 128 lo) at e))
+    (λ hi. inside-more n s (b - 128) x m (groupsAt n false s) (λ y k f. groups-inside n false s y k f) (rw (le-ltb b 128 hi) at e))
+    (below-or b 128)
+
+-- ---- numbers
+
+most-by : (limit y k x n : ℕ) (t : Bool) → leb y limit ≡ t → cond t (Number y k) Broken ≡ Number x n → (Number y k ≡ Number x n) × (x ≤ limit)
+most-by limit y k x n true l e = let p : y ≡ x = cc in (e, omega (arith, leb-true y limit l))
+most-by limit y k x n false l e = never x n e
+
+most-number : (limit : ℕ) (r : NumberRead) (x n : ℕ) → atMost limit r ≡ Number x n → (r ≡ Number x n) × (x ≤ limit)
+unfolding atMost
+most-number limit (Number y k) x n e = most-by limit y k x n (leb y limit) refl e
+most-number limit Broken x n e = never x n e
+
+pub most-within : (limit x n : ℕ) → x ≤ limit → atMost limit (Number x n) ≡ Number x n
+unfolding atMost
+most-within limit x n h = rw (le-leb x limit h)
+
+pub most-past : (limit x n : ℕ) → limit < x → atMost limit (Number x n) ≡ Broken
+unfolding atMost
+most-past limit x n h = rw (lt-leb x limit h)
+
+pub and-not-true : (t : Bool) → t && not true ≡ false
+and-not-true true = refl
+and-not-true false = refl
+
+-- the bytes of numbers, by size
+pub number-one : (x : ℕ) → x < 128 → numberBytes x ≡ x ∷ []
+unfolding numberBytes
+number-one x h = groups-last 2 x h
+
+pub number-two : (x : ℕ) → 128 ≤ x → x < 16_384 → numberBytes x ≡ (128 + x % 128) ∷ x / 128 ∷ []
+unfolding numberBytes
+number-two x h g = let f : x / 128 < 128 = omega arith in rw (groups-more 2 x h, groups-last 1 (x / 128) f)
+
+pub number-three : (x : ℕ) → 16_384 ≤ x → x ≤ 1_048_576
+    → numberBytes x ≡ (128 + x % 128) ∷ (128 + x / 128 % 128) ∷ x / 16_384 ∷ []
+unfolding numberBytes
+number-three x h g =
+    let a : 128 ≤ x = omega arith in
+    let b : 128 ≤ x / 128 = omega arith in
+    let c : x / 128 / 128 < 128 = omega arith in
+    rw (groups-more 2 x a, groups-more 1 (x / 128) b, groups-last 0 (x / 128 / 128) c, div-div-eq-div-mul x 128 128)
+
+-- a number that was written is read again
+pub number-returns : (x : ℕ) (s : List ℕ) → x ≤ 1_048_576 → numberAt (numberBytes x ++ s) ≡ Number x (length (numberBytes x))
+unfolding numberAt numberBytes
+number-returns x s h =
+    let small : x < 128 ^ 3 = omega arith in
+    rw (groups-again 2 x true s small (and-not-true (eqb x 0))) (most-within 1_048_576 x (length (groups 3 x)) h)
+
+-- where a number that is read lies, whatever the elements are
+pub number-inside : (s : List ℕ) (x n : ℕ) → numberAt s ≡ Number x n → (((1 ≤ n) × (n ≤ 3)) × (n ≤ length s)) × (x ≤ 1_048_576)
+unfolding numberAt
+number-inside s x n e =
+    let m = most-number 1_048_576 (groupsAt 3 true s) x n e in
+    (groups-inside 3 true s x n (m .0), m .1)
+
+-- bytes that are read as a number are the bytes of that number
+pub number-canonical : (s : List ℕ) (x n : ℕ) → AllBytes s → numberAt s ≡ Number x n
+    → (take n s ≡ numberBytes x) × (n ≡ length (numberBytes x)) × (x ≤ 1_048_576) × (n ≤ length s)
+unfolding numberAt numberBytes
+number-canonical s x n h e =
+    let m = most-number 1_048_576 (groupsAt 3 true s) x n e in
+    let g = groups-read 3 true s x n h (m .0) in
+    (g .bytes, g .size, m .1, g .inside)
+
+number-cases : (P : List ℕ → Type 0) (x : ℕ) → x ≤ 1_048_576 → (x < 128 → P (x ∷ []))
+    → (128 ≤ x → x < 16_384 → P ((128 + x % 128) ∷ x / 128 ∷ []))
+    → (16_384 ≤ x → P ((128 + x % 128) ∷ (128 + x / 128 % 128) ∷ x / 16_384 ∷ [])) → P (numberBytes x)
+number-cases P x h one two three =
+    ⊎-elim
+    (λ lo. rw (number-one x lo) (one lo))
+    (λ hi. ⊎-elim (λ mid. rw (number-two x hi mid) (two hi mid)) (λ top. rw (number-three x top h) (three top)) (below-or x 16_384))
+    (below-or x 128)
+
+groups-length : (n x : ℕ) → (1 ≤ length (groups (suc n) x)) × (length (groups (suc n) x) ≤ suc n)
+groups-length zero x =
+    ⊎-elim
+    (λ lo. rw (groups-last 0 x lo) (omega arith))
+    (λ hi. rw (groups-more 0 x hi) (unfold groups in omega arith))
+    (below-or x 128)
+groups-length (suc n) x =
+    ⊎-elim
+    (λ lo. rw (groups-last (suc n) x lo) (omega arith))
+    (λ hi. rw (groups-more (suc n) x hi) (omega (arith, groups-length n (x / 128))))
+    (below-or x 128)
+
+-- a number takes one to three bytes
+pub number-short : (x : ℕ) → (1 ≤ length (numberBytes x)) × (length (numberBytes x) ≤ 3)
+unfolding numberBytes
+number-short x = groups-length 2 x
+
+pub bytes-number : (x : ℕ) → x ≤ 1_048_576 → AllBytes (numberBytes x)
+bytes-number x h =
+    number-cases (λ l. AllBytes l) x h
+    (λ a. bytes-cons x [] (omega arith) bytes-nil)
+    (λ a b. bytes-cons (128 + x % 128) (x / 128 ∷ []) (omega arith) (bytes-cons (x / 128) [] (omega arith) bytes-nil))
+    (λ a.
+    bytes-cons (128 + x % 128) ((128 + x / 128 % 128) ∷ x / 16_384 ∷ []) (omega arith)
+    (bytes-cons (128 + x / 128 % 128) (x / 16_384 ∷ []) (omega arith) (bytes-cons (x / 16_384) [] (omega arith) bytes-nil)))
+
+-- ---- one entry
+
+-- numbers within their rule, old bytes that are bytes
+pub record GoodEntry (e : Entry) : Type 0 where
+  pub good-place : e .place ≤ 1_048_576
+  pub good-put : e .put ≤ 1_048_576
+  pub good-taken : length (e .old) ≤ 1_048_576
+  pub good-bytes : AllBytes (e .old)
+
+abbrev pub AllGood : List Entry → Type 0
+AllGood [] = Unit
+AllGood (e ∷ es) = GoodEntry e × AllGood es
+
+pub size-parts : (e : Entry)
+    → entrySize e
+    ≡ length (numberBytes (e .place))
+    + (length (numberBytes (e .put)) + (length (numberBytes (length (e .old))) + length (e .old)))
+unfolding entrySize entryBytes
+size-parts e = simp length-append
+
+pub size-least : (e : Entry) → 3 ≤ entrySize e
+size-least e =
+    omega (
+      arith,
+      size-parts e,
+      number-short (e .place),
+      number-short (e .put),
+      number-short (length (e .old)),
+    )
+
+pub bytes-entry : (e : Entry) → GoodEntry e → AllBytes (entryBytes e)
+unfolding entryBytes
+bytes-entry e g =
+    let p = numberBytes (e .place) in
+    let k = numberBytes (e .put) in
+    let m = numberBytes (length (e .old)) in
+    bytes-append p (k ++ (m ++ e .old)) (bytes-number (e .place) (g .good-place))
+    (bytes-append k (m ++ e .old) (bytes-number (e .put) (g .good-put))
+    (bytes-append m (e .old) (bytes-number (length (e .old)) (g .good-taken)) (g .good-bytes)))
+
+-- the front of bytes by its three numbers
+pub with-place : (s : List ℕ) (p a : ℕ) → numberAt s ≡ Number p a → frontOf s ≡ withPut p (numberAt (drop a s)) (drop a s)
+unfolding frontOf withPlace
+with-place s p a e = rw e
+
+pub with-put : (s : List ℕ) (p k b : ℕ) → numberAt s ≡ Number k b → withPut p (numberAt s) s ≡ withOld p k (numberAt (drop b s)) (drop b s)
+unfolding withPut
+with-put s p k b e = rw e
+
+pub with-old : (s : List ℕ) (p k m c : ℕ) → numberAt s ≡ Number m c → c + m ≤ length s
+    → withOld p k (numberAt s) s ≡ front (record { place = p; put = k; old = part s c m }) (drop (c + m) s)
+unfolding withOld
+with-old s p k m c e h = rw (e, le-leb (c + m) (length s) h)
+
+pub with-cut : (s : List ℕ) (p k m c : ℕ) → numberAt s ≡ Number m c → length s < c + m → withOld p k (numberAt s) s ≡ none
+unfolding withOld
+with-cut s p k m c e h = rw (e, lt-leb (c + m) (length s) h)
+
+-- an entry that was written is read again
+pub front-returns : (e : Entry) (s : List ℕ) → GoodEntry e → frontOf (entryBytes e ++ s) ≡ front e s
+unfolding entryBytes
+front-returns e s g =
+    let np = numberBytes (e .place) in
+    let nk = numberBytes (e .put) in
+    let nm = numberBytes (length (e .old)) in
+    let t = nm ++ (e .old ++ s) in
+    let fits : length nm + length (e .old) ≤ length t = simp length-append (omega arith) in
+    let old : part t (length nm) (length (e .old)) ≡ e .old = part-at nm (e .old) s (length nm) (length (e .old)) refl refl in
+    let rest : drop (length nm + length (e .old)) t ≡ s = drop-append-add nm (e .old ++ s) (length (e .old)) ∙ drop-append-seam (e .old) s in
+    simp append-assoc
+    (with-place (np ++ (nk ++ t)) (e .place) (length np) (number-returns (e .place) (nk ++ t) (g .good-place))
+    ∙ rw (drop-append-seam np (nk ++ t))
+    (with-put (nk ++ t) (e .place) (e .put) (length nk) (number-returns (e .put) t (g .good-put))
+    ∙ rw (drop-append-seam nk t)
+    (with-old t (e .place) (e .put) (length (e .old)) (length nm) (number-returns (length (e .old)) (e .old ++ s) (g .good-taken)) fits
+    ∙ rw (old, rest))))
+
+-- what bytes hold that are read as an entry: three numbers of a, b and c bytes, then the old bytes
+pub record OldRead (p k : ℕ) (s : List ℕ) (e : Entry) (t : List ℕ) : Type 0 where
+  pub c : ℕ
+  pub place-is : p ≡ e .place
+  pub put-is : k ≡ e .put
+  pub taken-at : numberAt s ≡ Number (length (e .old)) c
+  pub fits : c + length (e .old) ≤ length s
+  pub old-is : part s c (length (e .old)) ≡ e .old
+  pub rest-is : drop (c + length (e .old)) s ≡ t
+
+pub record PutRead (p : ℕ) (s : List ℕ) (e : Entry) (t : List ℕ) : Type 0 where
+  pub b : ℕ
+  pub put-at : numberAt s ≡ Number (e .put) b
+  pub old-read : OldRead p (e .put) (drop b s) e t
+
+pub record FrontRead (s : List ℕ) (e : Entry) (t : List ℕ) : Type 0 where
+  pub a : ℕ
+  pub place-at : numberAt s ≡ Number (e .place) a
+  pub put-read : PutRead (e .place) (drop a s) e t
+
+no-front : {A : Type 0} (e : Entry) (t : List ℕ) → none ≡ front e t → A
+no-front e t f = let z : _≡_ {A = ℕ} 0 1 = cc in absurd (omega arith)
+
+read-fits : (p k : ℕ) (s : List ℕ) (m c : ℕ) (e : Entry) (t : List ℕ) (v : Bool) → numberAt s ≡ Number m c → leb (c + m) (length s) ≡ v
+    → cond v (front (record { place = p; put = k; old = part s c m }) (drop (c + m) s)) none ≡ front e t → OldRead p k s e t
+read-fits p k s m c e t true f l g =
+    let made : Entry = record { place = p; put = k; old = part s c m } in
+    let is : made ≡ e = cc in
+    let rest : drop (c + m) s ≡ t = cc in
+    let h : c + m ≤ length s = leb-true (c + m) (length s) l in
+    let n : length (part s c m) ≡ m = length-part s c m h in
+    rw (← is, ← rest) (record {
+      c = c;
+      place-is = refl;
+      put-is = refl;
+      taken-at = rw n f;
+      fits = rw n h;
+      old-is = rw n refl;
+      rest-is = rw n refl;
+    })
+read-fits p k s m c e t false f l g = no-front e t g
+
+read-old : (p k : ℕ) (s : List ℕ) (r : NumberRead) (e : Entry) (t : List ℕ) → numberAt s ≡ r → withOld p k r s ≡ front e t
+    → OldRead p k s e t
+unfolding withOld
+read-old p k s (Number m c) e t f g = read-fits p k s m c e t (leb (c + m) (length s)) f refl g
+read-old p k s Broken e t f g = no-front e t g
+
+read-put : (p : ℕ) (s : List ℕ) (r : NumberRead) (e : Entry) (t : List ℕ) → numberAt s ≡ r → withPut p r s ≡ front e t → PutRead p s e t
+unfolding withPut
+read-put p s (Number k b) e t f g =
+    let o : OldRead p k (drop b s) e t = read-old p k (drop b s) (numberAt (drop b s)) e t refl g in
+    let i : k ≡ e .put = o .put-is in
+    record { b = b; put-at = rw i at f; old-read = rw i at o }
+read-put p s Broken e t f g = no-front e t g
+
+read-place : (s : List ℕ) (r : NumberRead) (e : Entry) (t : List ℕ) → numberAt s ≡ r → withPlace r s ≡ front e t → FrontRead s e t
+unfolding withPlace
+read-place s (Number p a) e t f g =
+    let o : PutRead p (drop a s) e t = read-put p (drop a s) (numberAt (drop a s)) e t refl g in
+    let i : p ≡ e .place = o .old-read .place-is in
+    record { a = a; place-at = rw i at f; put-read = rw i at o }
+read-place s Broken e t f g = no-front e t g
+
+pub front-read : (s : List ℕ) (e : Entry) (t : List ℕ) → frontOf s ≡ front e t → FrontRead s e t
+unfolding frontOf
+front-read s e t g = read-place s (numberAt s) e t refl g
+
+-- an entry takes at least three bytes of what it is read from, whatever the elements are
+pub front-shorter : (s : List ℕ) (e : Entry) (t : List ℕ) → frontOf s ≡ front e t → 3 + length t ≤ length s
+front-shorter s e t g =
+    let f = front-read s e t g in
+    let u = f .put-read in
+    let o = u .old-read in
+    omega (
+      arith,
+      number-inside s (e .place) (f .a) (f .place-at),
+      number-inside (drop (f .a) s) (e .put) (u .b) (u .put-at),
+      number-inside (drop (u .b) (drop (f .a) s)) (length (e .old)) (o .c) (o .taken-at),
+      length-drop (f .a) s,
+      length-drop (u .b) (drop (f .a) s),
+      length-drop (o .c + length (e .old)) (drop (u .b) (drop (f .a) s)),
+      ap length (o .rest-is),
+      o .fits,
+    )
+
+number-front : (s : List ℕ) (x n : ℕ) → AllBytes s → numberAt s ≡ Number x n → s ≡ numberBytes x ++ drop n s
+number-front s x n h e =
+    sym (take-append-drop n s) ∙ ap (λ (l : List ℕ). l ++ drop n s) (number-canonical s x n h e .0)
+
+-- bytes that are read as an entry are the bytes of that entry
+pub front-canonical : (s : List ℕ) (e : Entry) (t : List ℕ) → AllBytes s → frontOf s ≡ front e t
+    → (s ≡ entryBytes e ++ t) × GoodEntry e × AllBytes t
+unfolding entryBytes
+front-canonical s e t h g =
+    let f = front-read s e t g in
+    let u = f .put-read in
+    let o = u .old-read in
+    let s₁ = drop (f .a) s in
+    let s₂ = drop (u .b) s₁ in
+    let h₁ : AllBytes s₁ = bytes-drop (f .a) s h in
+    let h₂ : AllBytes s₂ = bytes-drop (u .b) s₁ h₁ in
+    let p = number-front s (e .place) (f .a) h (f .place-at) in
+    let k = number-front s₁ (e .put) (u .b) h₁ (u .put-at) in
+    let m = number-front s₂ (length (e .old)) (o .c) h₂ (o .taken-at) in
+    let d : drop (o .c) s₂ ≡ e .old ++ t =
+    sym (take-append-drop (length (e .old)) (drop (o .c) s₂))
+    ∙ rw (o .old-is, drop-drop (length (e .old)) (o .c) s₂, o .rest-is)
+    in
+    let all : s ≡ numberBytes (e .place) ++ (numberBytes (e .put) ++ (numberBytes (length (e .old)) ++ (e .old ++ t))) = cc in
+    let good : GoodEntry e =
+    record {
+      good-place = number-inside s (e .place) (f .a) (f .place-at) .1;
+      good-put = number-inside s₁ (e .put) (u .b) (u .put-at) .1;
+      good-taken = number-inside s₂ (length (e .old)) (o .c) (o .taken-at) .1;
+      good-bytes = rw (o .old-is) at (bytes-part s₂ (o .c) (length (e .old)) h₂);
+    }
+    in
+    (all ∙ simp append-assoc, good, rw (o .rest-is) at (bytes-drop (o .c + length (e .old)) s₂ h₂))
+
+no-cons : {A : Type 0} (e : Entry) (es : List Entry) → [] ≡ e ∷ es → A
+no-cons e es f = let z : _≡_ {A = ℕ} 0 1 = cc in absurd (omega arith)
+
+-- ---- whole entries
+
+front-rest : (f : Front) (n : ℕ) → ((e : Entry) (t : List ℕ) → f ≡ front e t → length t ≤ n) → length (restOf f) ≤ n
+unfolding restOf
+front-rest (front e t) n h = h e t refl
+front-rest none n h = omega arith
+
+rest-shorter : (b : ℕ) (s : List ℕ) → length (restOf (frontOf (b ∷ s))) ≤ length s
+rest-shorter b s =
+    front-rest (frontOf (b ∷ s)) (length s) (λ e t f. omega (arith, front-shorter (b ∷ s) e t f))
+
+-- as many turns as there are bytes are enough
+pub turns-enough : (m n : ℕ) (s : List ℕ) → length s ≤ m → length s ≤ n → entriesUpTo m s ≡ entriesUpTo n s
+unfolding entriesUpTo
+turns-enough zero zero s h g = refl
+turns-enough zero (suc n) [] h g = refl
+turns-enough zero (suc n) (b ∷ s) h g = absurd (omega arith)
+turns-enough (suc m) zero [] h g = refl
+turns-enough (suc m) zero (b ∷ s) h g = absurd (omega arith)
+turns-enough (suc m) (suc n) [] h g = refl
+turns-enough (suc m) (suc n) (b ∷ s) h g =
+    let r = restOf (frontOf (b ∷ s)) in
+    let l : length r ≤ length s = rest-shorter b s in
+    ap (λ (t : Entries). before (frontOf (b ∷ s)) t) (turns-enough m n r (omega arith) (omega arith))
+
+pub entries-none : entriesOf [] ≡ whole []
+unfolding entriesOf entriesUpTo
+entries-none = refl
+
+-- one entry, then the others
+pub entries-step : (s : List ℕ) → 0 < length s → entriesOf s ≡ before (frontOf s) (entriesOf (restOf (frontOf s)))
+unfolding entriesOf entriesUpTo
+entries-step [] h = absurd (omega arith)
+entries-step (b ∷ s) h =
+    let r = restOf (frontOf (b ∷ s)) in
+    let l : length r ≤ length s = rest-shorter b s in
+    ap (λ (t : Entries). before (frontOf (b ∷ s)) t) (turns-enough (length s) (length r) r l (omega arith))
+
+pub entries-next : (s : List ℕ) (e : Entry) (t : List ℕ) → frontOf s ≡ front e t → entriesOf s ≡ before (front e t) (entriesOf t)
+unfolding restOf
+entries-next s e t f = entries-step s (omega (arith, front-shorter s e t f)) ∙ rw f
+
+pub entries-stop : (s : List ℕ) → 0 < length s → frontOf s ≡ none → entriesOf s ≡ broken
+unfolding before
+entries-stop s h f = entries-step s h ∙ rw f
+
+-- a history that was written is read again
+pub entries-return : (es : List Entry) → AllGood es → entriesOf (historyBytes es) ≡ whole es
+unfolding historyBytes before
+entries-return [] g = entries-none
+entries-return (e ∷ es) g =
+    entries-next (entryBytes e ++ historyBytes es) e (historyBytes es) (front-returns e (historyBytes es) (g .0))
+    ∙ rw (entries-return es (g .1))
+
+not-whole : {A : Type 0} (es : List Entry) → broken ≡ whole es → A
+not-whole es f = let z : _≡_ {A = ℕ} 0 1 = cc in absurd (omega arith)
+
+-- bytes that are read as a history are the bytes of that history
+canonical-after : (s : List ℕ) (f : Front) (r : Entries) (es : List Entry) → ((e : Entry) (t : List ℕ) → f ≡ front e t
+    → (s ≡ entryBytes e ++ t) × GoodEntry e) → ((es₁ : List Entry) → r ≡ whole es₁ → (historyBytes es₁ ≡ restOf f) × AllGood es₁)
+    → before f r ≡ whole es → (historyBytes es ≡ s) × AllGood es
+unfolding before restOf historyBytes
+canonical-after s (front e t) (whole es₁) es h i g =
+    let q : e ∷ es₁ ≡ es = cc in
+    let a = h e t refl in
+    let b = i es₁ refl in
+    rw (← q) (rw (b .0) (sym (a .0)), (a .1, b .1))
+canonical-after s (front e t) broken es h i g = not-whole es g
+canonical-after s none r es h i g = not-whole es g
+
+bytes-rest : (f : Front) → ((e : Entry) (t : List ℕ) → f ≡ front e t → AllBytes t) → AllBytes (restOf f)
+unfolding restOf
+bytes-rest (front e t) h = h e t refl
+bytes-rest none h = bytes-nil
+
+canonical-up-to : (n : ℕ) (s : List ℕ) (es : List Entry) → AllBytes s → entriesUpTo n s ≡ whole es → (historyBytes es ≡ s) × AllGood es
+unfolding entriesUpTo historyBytes
+canonical-up-to zero [] es h f = let q : [] ≡ es = cc in rw (← q) (refl, tt)
+canonical-up-to zero (b ∷ s) es h f = not-whole es f
+canonical-up-to (suc n) [] es h f = let q : [] ≡ es = cc in rw (← q) (refl, tt)
+canonical-up-to (suc n) (b ∷ s) es h f =
+    let u = frontOf (b ∷ s) in
+    let g : AllBytes (restOf u) = bytes-rest u (λ e t i. front-canonical (b ∷ s) e t h i .2) in
+    canonical-after (b ∷ s) u (entriesUpTo n (restOf u)) es
+    (λ e t i. let a = front-canonical (b ∷ s) e t h i in (a .0, a .1))
+    (λ es₁ i. canonical-up-to n (restOf u) es₁ g i) f
+
+pub entries-canonical : (s : List ℕ) (es : List Entry) → AllBytes s → entriesOf s ≡ whole es → (historyBytes es ≡ s) × AllGood es
+unfolding entriesOf
+entries-canonical s es h f = canonical-up-to (length s) s es h f
+
+-- ---- the bytes of a history
+
+pub history-append : (a b : List Entry) → historyBytes (a ++ b) ≡ historyBytes a ++ historyBytes b
+unfolding historyBytes
+history-append [] b = refl
+history-append (e ∷ a) b = rw (history-append a b) (sym (append-assoc (entryBytes e) (historyBytes a) (historyBytes b)))
+
+pub history-size : (e : Entry) (es : List Entry) → length (historyBytes (e ∷ es)) ≡ entrySize e + length (historyBytes es)
+unfolding historyBytes entrySize
+history-size e es = length-append (entryBytes e) (historyBytes es)
+
+pub history-sizes : (a b : List Entry) → length (historyBytes (a ++ b)) ≡ length (historyBytes a) + length (historyBytes b)
+history-sizes a b = ap length (history-append a b) ∙ length-append (historyBytes a) (historyBytes b)
+
+pub history-none : historyBytes [] ≡ []
+unfolding historyBytes
+history-none = refl
+
+-- three bytes an entry at least
+pub history-least : (es : List Entry) → 3 * length es ≤ length (historyBytes es)
+history-least [] = omega arith
+history-least (e ∷ es) = omega (arith, history-size e es, size-least e, history-least es)
+
+pub bytes-history : (es : List Entry) → AllGood es → AllBytes (historyBytes es)
+unfolding historyBytes
+bytes-history [] g = bytes-nil
+bytes-history (e ∷ es) g = bytes-append (entryBytes e) (historyBytes es) (bytes-entry e (g .0)) (bytes-history es (g .1))
+
+pub good-append : (a b : List Entry) → AllGood a → AllGood b → AllGood (a ++ b)
+good-append [] b ga gb = gb
+good-append (e ∷ a) b ga gb = (ga .0, good-append a b (ga .1) gb)
+
+pub good-left : (a b : List Entry) → AllGood (a ++ b) → AllGood a
+good-left [] b g = tt
+good-left (e ∷ a) b g = (g .0, good-left a b (g .1))
+
+-- one list of good entries has these bytes
+pub history-one : (a b : List Entry) → AllGood a → AllGood b → historyBytes a ≡ historyBytes b → a ≡ b
+history-one a b ga gb e =
+    let f : whole a ≡ whole b = sym (entries-return a ga) ∙ ap entriesOf e ∙ entries-return b gb in
+    cc
+
+-- ---- the run that is kept
+
+pub kept-none : (room : ℕ) → kept room [] ≡ []
+unfolding kept
+kept-none room = refl
+
+pub kept-more : (room : ℕ) (e : Entry) (es : List Entry) → entrySize e ≤ room → kept room (e ∷ es) ≡ e ∷ kept (room - entrySize e) es
+unfolding kept
+kept-more room e es h = rw (le-leb (entrySize e) room h)
+
+pub kept-stop : (room : ℕ) (e : Entry) (es : List Entry) → room < entrySize e → kept room (e ∷ es) ≡ []
+unfolding kept
+kept-stop room e es h = rw (lt-leb (entrySize e) room h)
+
+-- it fits
+pub kept-fits : (room : ℕ) (es : List Entry) → length (historyBytes (kept room es)) ≤ room
+kept-fits room [] = rw (kept-none room, history-none) (omega arith)
+kept-fits room (e ∷ es) =
+    ⊎-elim
+    (λ no. rw (kept-stop room e es no, history-none) (omega arith))
+    (λ yes.
+    rw (kept-more room e es yes, history-size e (kept (room - entrySize e) es)) (omega (arith, kept-fits (room - entrySize e) es)))
+    (below-or room (entrySize e))
+
+-- a run that fits is kept, and what follows it gets the room that is left
+pub kept-front : (room : ℕ) (a b : List Entry) → length (historyBytes a) ≤ room
+    → kept room (a ++ b) ≡ a ++ kept (room - length (historyBytes a)) b
+kept-front room [] b h =
+    let z : room ≡ room - length (historyBytes []) = rw history-none (omega arith) in
+    ap (λ (n : ℕ). kept n b) z
+kept-front room (e ∷ a) b h =
+    let g : entrySize e + length (historyBytes a) ≤ room = rw (history-size e a) at h in
+    let r : room - entrySize e - length (historyBytes a) ≡ room - (entrySize e + length (historyBytes a)) = omega arith in
+    rw (kept-more room e (a ++ b) (omega arith), kept-front (room - entrySize e) a b (omega arith), history-size e a, r)
+
+-- all of it where all of it fits, exactly too
+pub kept-all : (room : ℕ) (es : List Entry) → length (historyBytes es) ≤ room → kept room es ≡ es
+kept-all room es h =
+    ap (λ (l : List Entry). kept room l) (sym (append-nil es))
+    ∙ kept-front room es [] h
+    ∙ rw (kept-none (room - length (historyBytes es)), append-nil es)
+
+-- it is the front of the list
+pub kept-rest : (room : ℕ) (es : List Entry) → kept room es ++ drop (length (kept room es)) es ≡ es
+kept-rest room [] = rw (kept-none room)
+kept-rest room (e ∷ es) =
+    ⊎-elim
+    (λ no. rw (kept-stop room e es no))
+    (λ yes. rw (kept-more room e es yes) (ap (λ (l : List Entry). e ∷ l) (kept-rest (room - entrySize e) es)))
+    (below-or room (entrySize e))
+
+-- it is the longest: the next entry does not fit
+pub kept-next : (room : ℕ) (es : List Entry) (e : Entry) (rest : List Entry) → drop (length (kept room es)) es ≡ e ∷ rest
+    → room < length (historyBytes (kept room es)) + entrySize e
+kept-next room [] e rest f = no-cons e rest (rw (kept-none room) at f)
+kept-next room (d ∷ es) e rest f =
+    ⊎-elim
+    (λ no.
+    let g : d ∷ es ≡ e ∷ rest = rw (kept-stop room d es no) at f in
+    let q : d ≡ e = cc in
+    rw (kept-stop room d es no, history-none, ← q) (omega arith))
+    (λ yes.
+    let g : drop (length (kept (room - entrySize d) es)) es ≡ e ∷ rest = rw (kept-more room d es yes) at f in
+    rw (kept-more room d es yes, history-size d (kept (room - entrySize d) es))
+    (omega (arith, kept-next (room - entrySize d) es e rest g)))
+    (below-or room (entrySize d))
+
+-- no longer run fits
+pub kept-longest : (room : ℕ) (a b : List Entry) → length (historyBytes a) ≤ room → length a ≤ length (kept room (a ++ b))
+kept-longest room a b h =
+    let k = kept (room - length (historyBytes a)) b in
+    rw (kept-front room a b h, length-append a k) (omega arith)
+
+-- its bytes are the front of the bytes
+pub kept-bytes : (room : ℕ) (es : List Entry)
+    → historyBytes (kept room es) ≡ take (length (historyBytes (kept room es))) (historyBytes es)
+kept-bytes room es =
+    let k = kept room es in
+    let r = drop (length k) es in
+    let f : historyBytes es ≡ historyBytes k ++ historyBytes r =
+    ap (λ (l : List Entry). historyBytes l) (sym (kept-rest room es)) ∙ history-append k r
+    in
+    sym (ap (λ (l : List ℕ). take (length (historyBytes k)) l) f ∙ take-append-seam (historyBytes k) (historyBytes r))
+
+pub kept-good : (room : ℕ) (es : List Entry) → AllGood es → AllGood (kept room es)
+kept-good room es g =
+    good-left (kept room es) (drop (length (kept room es)) es) (rw (kept-rest room es) g)
+
+-- a smaller room of a larger one
+pub kept-kept : (small large : ℕ) (es : List Entry) → small ≤ large → kept small (kept large es) ≡ kept small es
+kept-kept small large [] h = rw (kept-none large)
+kept-kept small large (e ∷ es) h =
+    ⊎-elim
+    (λ no.
+    ⊎-elim
+    (λ none-fits. rw (kept-stop large e es none-fits, kept-stop small e es no, kept-none small))
+    (λ fits. rw (kept-more large e es fits, kept-stop small e (kept (large - entrySize e) es) no, kept-stop small e es no))
+    (below-or large (entrySize e)))
+    (λ yes.
+    let fits : entrySize e ≤ large = omega arith in
+    let left : small - entrySize e ≤ large - entrySize e = omega arith in
+    rw (
+      kept-more large e es fits,
+      kept-more small e (kept (large - entrySize e) es) yes,
+      kept-more small e es yes,
+      kept-kept (small - entrySize e) (large - entrySize e) es left,
+    ))
+    (below-or small (entrySize e))
+
+-- the oldest entry of a list that exceeds the room is not kept
+pub kept-oldest : (room : ℕ) (es : List Entry) (e : Entry) → room < length (historyBytes (es ++ (e ∷ [])))
+    → kept room (es ++ (e ∷ [])) ≡ kept room es
+kept-oldest room [] e h =
+    let g : room < entrySize e = omega (arith, history-size e [], ap length history-none) in
+    kept-stop room e [] g ∙ sym (kept-none room)
+kept-oldest room (d ∷ es) e h =
+    let g : room < entrySize d + length (historyBytes (es ++ (e ∷ []))) = rw (history-size d (es ++ (e ∷ []))) at h in
+    ⊎-elim
+    (λ no. rw (kept-stop room d (es ++ (e ∷ [])) no, kept-stop room d es no))
+    (λ yes.
+    rw (
+      kept-more room d (es ++ (e ∷ [])) yes,
+      kept-more room d es yes,
+      kept-oldest (room - entrySize d) es e (omega arith),
+    ))
+    (below-or room (entrySize d))
+
+-- ---- the history after an edit
+
+pub recorded-kept : (size : ℕ) (e : Entry) (es : List Entry) → entrySize e ≤ size → recorded size e es ≡ kept size (e ∷ es)
+unfolding recorded
+recorded-kept size e es h = sym (kept-more size e es h)
+
+pub recorded-fits : (size : ℕ) (e : Entry) (es : List Entry) → entrySize e ≤ size → length (historyBytes (recorded size e es)) ≤ size
+recorded-fits size e es h = rw (recorded-kept size e es h) (kept-fits size (e ∷ es))
+
+pub recorded-good : (size : ℕ) (e : Entry) (es : List Entry) → GoodEntry e → AllGood es → AllGood (recorded size e es)
+unfolding recorded
+recorded-good size e es g gs = (g, kept-good (size - entrySize e) es gs)
+
+pub recorded-bytes : (size : ℕ) (e : Entry) (es : List Entry)
+    → historyBytes (recorded size e es) ≡ entryBytes e ++ historyBytes (kept (size - entrySize e) es)
+unfolding recorded historyBytes
+recorded-bytes size e es = refl
+
+-- ---- taking the first entry back
+
+pub history-first : (e : Entry) (es : List Entry) → GoodEntry e → frontOf (historyBytes (e ∷ es)) ≡ front e (historyBytes es)
+unfolding historyBytes
+history-first e es g = front-returns e (historyBytes es) g
+
+pub history-drop : (e : Entry) (es : List Entry) → drop (entrySize e) (historyBytes (e ∷ es)) ≡ historyBytes es
+unfolding historyBytes entrySize
+history-drop e es = drop-append-seam (entryBytes e) (historyBytes es)

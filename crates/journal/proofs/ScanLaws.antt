@@ -1,0 +1,493 @@
+-- Laws for the code: a number and an entry at a place of a list, and the scans of a history, turn by turn.
+use Prim.Native.Nat.{ℕ, zero, suc, _+_, _*_, _-_, _/_, _%_, _≤_, _<_}
+use mathlib.Core.Path.{_≡_, refl, ap, sym, _∙_}
+use mathlib.Core.Bool.{Bool, true, false}
+use mathlib.Core.List.{List, [], _∷_, _++_}
+use native.Mathlib.Omega.{arith}
+use native.Mathlib.Numerals.{add-one}
+use native.Mathlib.Nat.{add-assoc, zero-add}
+use lib.ListN.{length, getD, drop, set, length-append, length-drop, drop-of-length-le}
+use lib.Seq.{drop-drop, drop-cons}
+use lib.Dec.{eqb}
+use borrow.Author.Tests.{ne-eqb}
+use Rattle.fields.specs.Bytes.{part, over}
+use Rattle.fields.proofs.Laws.{AllBytes, bytes-drop, length-part, over-byte, over-two, over-three}
+use Rattle.journal.specs.Number.{numberBytes, withGroup, groupsAt, atMost, numberAt}
+use Rattle.journal.specs.Entry.{Entry, entryBytes, entrySize, historyBytes, Front, front, none, withOld, withPut, withPlace}
+use Rattle.journal.specs.Entry.{frontOf, Entries, whole, broken, before, entriesOf}
+use Rattle.journal.specs.History.{kept, counted}
+use Rattle.journal.specs.Scan.{headOf, runOf}
+use Rattle.journal.specs.declared.number.NumberRead.{NumberRead}
+use Rattle.journal.specs.declared.number.NumberRead.the-variants.{Number, Broken}
+use Rattle.journal.specs.declared.scan.EntryHead.{EntryHead}
+use Rattle.journal.specs.declared.scan.EntryRead.{EntryRead}
+use Rattle.journal.specs.declared.scan.EntryRead.the-variants as head
+use Rattle.journal.specs.declared.scan.HistoryRead.{HistoryRead}
+use Rattle.journal.specs.declared.scan.HistoryRead.the-variants as read
+use Rattle.journal.specs.declared.scan.Run.{Run}
+use Rattle.journal.proofs.Laws.{at-last, at-zero, at-more, with-group, and-false, and-not-true, most-within, most-past}
+use Rattle.journal.proofs.Laws.{number-one, number-two, number-three, number-inside, with-place, with-put, with-old, with-cut}
+use Rattle.journal.proofs.Laws.{front-read, front-canonical, entries-none, entries-next, entries-stop}
+use Rattle.journal.proofs.Laws.{history-none, history-size, kept-none, kept-more, kept-stop, AllGood, GoodEntry, entries-return, history-first}
+
+-- ---- the number at a place, byte by byte
+
+-- at k stands the byte a; as a record, from which antt finds them
+pub record ByteHere (s : List ℕ) (k a : ℕ) : Type 0 where
+  pub inside : k < length s
+  pub is : a ≡ getD s k 0
+  pub byte : a < 256
+
+-- the bytes from k on
+from-one : {s : List ℕ} {k a : ℕ} → ByteHere s k a → drop k s ≡ a ∷ drop (k + 1) s
+from-one {s} {k} h = rw (h .is) (drop-cons s k 0 (h .inside) ∙ rw add-one)
+
+from-two : {s : List ℕ} {k a b : ℕ} → ByteHere s k a → ByteHere s (k + 1) b → drop k s ≡ a ∷ b ∷ drop (k + 2) s
+from-two {s} {k} g h = let e : k + 1 + 1 ≡ k + 2 = omega arith in from-one g ∙ rw (from-one h, e)
+
+from-three : {s : List ℕ} {k a b c : ℕ} → ByteHere s k a → ByteHere s (k + 1) b → ByteHere s (k + 2) c
+    → drop k s ≡ a ∷ b ∷ c ∷ drop (k + 3) s
+from-three {s} {k} g h i = let e : k + 2 + 1 ≡ k + 3 = omega arith in from-two g h ∙ rw (from-one i, e)
+
+most-broken : (limit : ℕ) → atMost limit Broken ≡ Broken
+unfolding atMost
+most-broken limit = refl
+
+with-broken : (low : ℕ) → withGroup low Broken ≡ Broken
+unfolding withGroup
+with-broken low = refl
+
+none-left : (n : ℕ) (alone : Bool) → groupsAt n alone [] ≡ Broken
+unfolding groupsAt
+none-left zero alone = refl
+none-left (suc n) alone = refl
+
+more-broken : (n : ℕ) (alone : Bool) (b : ℕ) (s : List ℕ) → 128 ≤ b → groupsAt n false s ≡ Broken
+    → groupsAt (suc n) alone (b ∷ s) ≡ Broken
+more-broken n alone b s h e = rw (at-more n alone b s h, e, with-broken)
+
+more-number : (n : ℕ) (alone : Bool) (b : ℕ) (s : List ℕ) (x m : ℕ) → 128 ≤ b → groupsAt n false s ≡ Number x m
+    → groupsAt (suc n) alone (b ∷ s) ≡ Number (b - 128 + 128 * x) (m + 1)
+more-number n alone b s x m h e = rw (at-more n alone b s h, e, with-group)
+
+last-good : (n b : ℕ) (s : List ℕ) → 0 < b → b < 128 → groupsAt (suc n) false (b ∷ s) ≡ Number b 1
+last-good n b s h g =
+    let z : b ≡ 0 → ⊥ = λ e. omega arith in
+    at-last n false b s g (and-false (eqb b 0) true (ne-eqb b 0 z))
+
+-- what stops a number: no byte left, or a last group of zero
+last-bad : (n : ℕ) (s : List ℕ) → groupsAt (suc n) false (0 ∷ s) ≡ Broken
+last-bad n s = at-zero n false 0 s (omega arith) refl
+
+broken-by : (s t : List ℕ) → s ≡ t → groupsAt 3 true t ≡ Broken → Broken ≡ numberAt s
+unfolding numberAt
+broken-by s t e f = rw (e, f, most-broken)
+
+-- what the bytes read so far say of the number at k
+pub read-end : (s : List ℕ) (k : ℕ) → length s ≤ k → Broken ≡ numberAt (drop k s)
+read-end s k h = broken-by (drop k s) [] (drop-of-length-le s h) (none-left 3 true)
+
+pub read-one : {s : List ℕ} {k a : ℕ} → ByteHere s k a → a < 128 → Number a 1 ≡ numberAt (drop k s)
+unfolding numberAt
+read-one {s} {k} {a} g h =
+    rw (from-one g, at-last 2 true a (drop (k + 1) s) h (and-not-true (eqb a 0))) (sym (most-within 1_048_576 a 1 (omega arith)))
+
+pub read-cut : {s : List ℕ} {k a : ℕ} → ByteHere s k a → 128 ≤ a → length s ≤ k + 1 → Broken ≡ numberAt (drop k s)
+read-cut {s} {k} {a} g h l =
+    broken-by (drop k s) (a ∷ []) (from-one g ∙ rw (drop-of-length-le s l)) (more-broken 2 true a [] h (none-left 2 false))
+
+pub read-zero : {s : List ℕ} {k a b : ℕ} → ByteHere s k a → ByteHere s (k + 1) b → 128 ≤ a → b ≡ 0 → Broken ≡ numberAt (drop k s)
+read-zero {s} {k} {a} {b} g h i z =
+    broken-by (drop k s) (a ∷ b ∷ drop (k + 2) s) (from-two g h)
+    (more-broken 2 true a (b ∷ drop (k + 2) s) i (rw z (last-bad 1 (drop (k + 2) s))))
+
+pub read-two : {s : List ℕ} {k a b : ℕ} → ByteHere s k a → ByteHere s (k + 1) b → 128 ≤ a → 0 < b → b < 128
+    → Number (a - 128 + 128 * b) 2 ≡ numberAt (drop k s)
+unfolding numberAt
+read-two {s} {k} {a} {b} g h i j l =
+    let u = drop (k + 2) s in
+    rw (from-two g h, more-number 2 true a (b ∷ u) b 1 i (last-good 1 b u j l))
+    (sym (most-within 1_048_576 (a - 128 + 128 * b) 2 (omega (arith, g .byte))))
+
+pub read-cut-two : {s : List ℕ} {k a b : ℕ} → ByteHere s k a → ByteHere s (k + 1) b → 128 ≤ a → 128 ≤ b → length s ≤ k + 2
+    → Broken ≡ numberAt (drop k s)
+read-cut-two {s} {k} {a} {b} g h i j l =
+    broken-by (drop k s) (a ∷ b ∷ []) (from-two g h ∙ rw (drop-of-length-le s l))
+    (more-broken 2 true a (b ∷ []) i (more-broken 1 false b [] j (none-left 1 false)))
+
+-- three bytes, the first two with their top bits
+pub record Three (s : List ℕ) (k a b c : ℕ) : Type 0 where
+  pub first : ByteHere s k a
+  pub second : ByteHere s (k + 1) b
+  pub third : ByteHere s (k + 2) c
+  pub first-more : 128 ≤ a
+  pub second-more : 128 ≤ b
+
+from-all : {s : List ℕ} {k a b c : ℕ} → Three s k a b c → drop k s ≡ a ∷ b ∷ c ∷ drop (k + 3) s
+from-all t = from-three (t .first) (t .second) (t .third)
+
+three-broken : {s : List ℕ} {k a b c : ℕ} → Three s k a b c → groupsAt 1 false (c ∷ drop (k + 3) s) ≡ Broken → Broken ≡ numberAt (drop k s)
+three-broken {s} {k} {a} {b} {c} t z =
+    let u = c ∷ drop (k + 3) s in
+    broken-by (drop k s) (a ∷ b ∷ u) (from-all t)
+    (more-broken 2 true a (b ∷ u) (t .first-more) (more-broken 1 false b u (t .second-more) z))
+
+pub read-zero-three : {s : List ℕ} {k a b c : ℕ} → Three s k a b c → c ≡ 0 → Broken ≡ numberAt (drop k s)
+read-zero-three {s} {k} t z = three-broken t (rw z (last-bad 0 (drop (k + 3) s)))
+
+pub read-long : {s : List ℕ} {k a b c : ℕ} → Three s k a b c → 128 ≤ c → Broken ≡ numberAt (drop k s)
+read-long {s} {k} {a} {b} {c} t h = three-broken t (more-broken 0 false c (drop (k + 3) s) h (unfold groupsAt in refl))
+
+three-number : {s : List ℕ} {k a b c : ℕ} → Three s k a b c → 0 < c → c < 128
+    → numberAt (drop k s) ≡ atMost 1_048_576 (Number (a - 128 + 128 * (b - 128 + 128 * c)) 3)
+unfolding numberAt
+three-number {s} {k} {a} {b} {c} t h g =
+    let u = drop (k + 3) s in
+    rw (
+      from-all t,
+      more-number 2 true a (b ∷ c ∷ u) (b - 128 + 128 * c) 2 (t .first-more)
+          (more-number 1 false b (c ∷ u) c 1 (t .second-more) (last-good 0 c u h g)),
+    )
+
+pub read-large : {s : List ℕ} {k a b c : ℕ} → Three s k a b c → 0 < c → c < 128
+    → 1_048_576 < a - 128 + 128 * (b - 128 + 128 * c) → Broken ≡ numberAt (drop k s)
+read-large {s} {k} {a} {b} {c} t h g l =
+    rw (three-number t h g) (sym (most-past 1_048_576 (a - 128 + 128 * (b - 128 + 128 * c)) 3 l))
+
+pub read-three : {s : List ℕ} {k a b c : ℕ} → Three s k a b c → 0 < c → c < 128
+    → a - 128 + 128 * (b - 128 + 128 * c) ≤ 1_048_576 → Number (a - 128 + 128 * (b - 128 + 128 * c)) 3 ≡ numberAt (drop k s)
+read-three {s} {k} {a} {b} {c} t h g l =
+    rw (three-number t h g) (sym (most-within 1_048_576 (a - 128 + 128 * (b - 128 + 128 * c)) 3 l))
+
+-- ---- a number written at a place
+
+pub put-one : (d : List ℕ) (k x : ℕ) → x < 128 → k + length (numberBytes x) ≤ length d → set d k x ≡ over d k (numberBytes x)
+put-one d k x h g =
+    let n : length (numberBytes x) ≡ 1 = ap length (number-one x h) in
+    rw (number-one x h) (over-byte d k x (omega arith))
+
+pub put-two : (d : List ℕ) (k x : ℕ) → 128 ≤ x → x < 16_384 → k + length (numberBytes x) ≤ length d
+    → set (set d k (128 + x % 128)) (k + 1) (x / 128) ≡ over d k (numberBytes x)
+put-two d k x h f g =
+    let n : length (numberBytes x) ≡ 2 = ap length (number-two x h f) in
+    rw (number-two x h f) (over-two d k (128 + x % 128) (x / 128) (omega arith))
+
+pub put-three : (d : List ℕ) (k x : ℕ) → 16_384 ≤ x → x ≤ 1_048_576 → k + length (numberBytes x) ≤ length d
+    → set (set (set d k (128 + x % 128)) (k + 1) (128 + x / 128 % 128)) (k + 2) (x / 16_384) ≡ over d k (numberBytes x)
+put-three d k x h f g =
+    let n : length (numberBytes x) ≡ 3 = ap length (number-three x h f) in
+    rw (number-three x h f) (over-three d k (128 + x % 128) (128 + x / 128 % 128) (x / 16_384) (omega arith))
+
+-- ---- the entry at a place
+
+-- at k stands the number x, in n bytes; as a record, from which antt finds them
+pub record NumberHere (s : List ℕ) (k x n : ℕ) : Type 0 where
+  pub here : numberAt (drop k s) ≡ Number x n
+
+pub number-here : (s : List ℕ) (k x n : ℕ) {r : NumberRead} → r ≡ numberAt (drop k s) → r ≡ Number x n → NumberHere s k x n
+number-here s k x n e f = record { here = sym e ∙ f }
+
+pub here-inside : {s : List ℕ} {k x n : ℕ} → NumberHere s k x n → k + n ≤ length s
+here-inside {s} {k} {x} {n} h = omega (arith, number-inside (drop k s) x n (h .here), length-drop k s)
+
+head-none : (f : Front) (n : ℕ) → f ≡ none → head.Broken ≡ headOf f n
+unfolding headOf
+head-none f n e = rw e
+
+pub no-place : (s : List ℕ) (k : ℕ) {r : NumberRead} → r ≡ numberAt (drop k s) → r ≡ Broken
+    → head.Broken ≡ headOf (frontOf (drop k s)) (length s)
+unfolding frontOf withPlace
+no-place s k e f = head-none (frontOf (drop k s)) (length s) (rw (sym e ∙ f))
+
+pub no-put : {s : List ℕ} {k p a : ℕ} {r : NumberRead} → NumberHere s k p a → r ≡ numberAt (drop (k + a) s) → r ≡ Broken
+    → head.Broken ≡ headOf (frontOf (drop k s)) (length s)
+unfolding withPut
+no-put {s} {k} {p} {a} h e f =
+    head-none (frontOf (drop k s)) (length s) (with-place (drop k s) p a (h .here) ∙ rw (drop-drop a k s, sym e ∙ f))
+
+-- the first two numbers
+front-two : {s : List ℕ} {k p a q b : ℕ} → NumberHere s k p a → NumberHere s (k + a) q b
+    → frontOf (drop k s) ≡ withOld p q (numberAt (drop (k + a + b) s)) (drop (k + a + b) s)
+front-two {s} {k} {p} {a} {q} {b} h i =
+    with-place (drop k s) p a (h .here)
+    ∙ rw (drop-drop a k s) (with-put (drop (k + a) s) p q b (i .here) ∙ rw (drop-drop b (k + a) s))
+
+pub no-taken : {s : List ℕ} {k p a q b : ℕ} {r : NumberRead} → NumberHere s k p a → NumberHere s (k + a) q b
+    → r ≡ numberAt (drop (k + a + b) s) → r ≡ Broken → head.Broken ≡ headOf (frontOf (drop k s)) (length s)
+unfolding withOld
+no-taken {s} {k} h i e f = head-none (frontOf (drop k s)) (length s) (front-two h i ∙ rw (sym e ∙ f))
+
+pub old-cut : {s : List ℕ} {k p a q b m c : ℕ} → NumberHere s k p a → NumberHere s (k + a) q b → NumberHere s (k + a + b) m c
+    → length s - (k + a + b + c) < m → head.Broken ≡ headOf (frontOf (drop k s)) (length s)
+old-cut {s} {k} {p} {a} {q} {b} {m} {c} h i j g =
+    head-none (frontOf (drop k s)) (length s)
+    (front-two h i
+    ∙ with-cut (drop (k + a + b) s) p q m c (j .here) (omega (arith, length-drop (k + a + b) s, here-inside j)))
+
+pub old-whole : {s : List ℕ} {k p a q b m c : ℕ} → NumberHere s k p a → NumberHere s (k + a) q b → NumberHere s (k + a + b) m c
+    → m ≤ length s - (k + a + b + c)
+    → head.Entry (record { place = p; put = q; taken = m; body = k + a + b + c; next = k + a + b + c + m })
+    ≡ headOf (frontOf (drop k s)) (length s)
+unfolding headOf
+old-whole {s} {k} {p} {a} {q} {b} {m} {c} h i j g =
+    let t = drop (k + a + b) s in
+    let inside : k + a + b + c ≤ length s = here-inside j in
+    let l : length t ≡ length s - (k + a + b) = length-drop (k + a + b) s in
+    let fits : c + m ≤ length t = omega arith in
+    let taken : length (part t c m) ≡ m = length-part t c m fits in
+    let next : length s - length (drop (c + m) t) ≡ k + a + b + c + m = omega (arith, length-drop (c + m) t) in
+    let body : k + a + b + c + m - m ≡ k + a + b + c = omega arith in
+    rw (front-two h i, with-old t p q m c (j .here) fits, next, taken, body)
+
+-- what a head that is read says of the entry at k
+pub record HeadRead (s : List ℕ) (k : ℕ) (h : EntryHead) : Type 0 where
+  pub entry : Entry
+  pub front-is : frontOf (drop k s) ≡ front entry (drop (h .next) s)
+  pub place-is : h .place ≡ entry .place
+  pub put-is : h .put ≡ entry .put
+  pub taken-is : h .taken ≡ length (entry .old)
+  pub old-is : part s (h .body) (h .taken) ≡ entry .old
+  pub next-is : h .next ≡ h .body + h .taken
+  pub after : k + 3 ≤ h .body
+  pub inside : h .next ≤ length s
+
+head-of-front : (s : List ℕ) (k : ℕ) (e : Entry) (t : List ℕ) (h : EntryHead) → frontOf (drop k s) ≡ front e t
+    → headOf (front e t) (length s) ≡ head.Entry h → HeadRead s k h
+unfolding headOf
+head-of-front s k e t h f g =
+    let made : EntryHead =
+    record {
+      place = e .place;
+      put = e .put;
+      taken = length (e .old);
+      body = length s - length t - length (e .old);
+      next = length s - length t;
+    }
+    in
+    let is : made ≡ h = cc in
+    let r = front-read (drop k s) e t f in
+    let u = r .put-read in
+    let o = u .old-read in
+    let m = length (e .old) in
+    let s₁ = drop (r .a) (drop k s) in
+    let s₂ = drop (u .b) s₁ in
+    let d : s₂ ≡ drop (k + r .a + u .b) s = ap (λ (l : List ℕ). drop (u .b) l) (drop-drop (r .a) k s) ∙ drop-drop (u .b) (k + r .a) s in
+    let l : length s₂ ≡ length s - (k + r .a + u .b) = ap length d ∙ length-drop (k + r .a + u .b) s in
+    let i = number-inside (drop k s) (e .place) (r .a) (r .place-at) in
+    let j = number-inside s₁ (e .put) (u .b) (u .put-at) in
+    let n = number-inside s₂ m (o .c) (o .taken-at) in
+    let fits : o .c + m ≤ length s₂ = o .fits in
+    let body : length s - length t - m ≡ k + r .a + u .b + o .c = omega (arith, length-drop (o .c + m) s₂, ap length (o .rest-is)) in
+    let next : length s - length t ≡ k + r .a + u .b + o .c + m = omega (arith, length-drop (o .c + m) s₂, ap length (o .rest-is)) in
+    let rest : t ≡ drop (length s - length t) s =
+    sym (o .rest-is) ∙ rw (d, drop-drop (o .c + m) (k + r .a + u .b) s, next, add-assoc (k + r .a + u .b) (o .c) m)
+    in
+    let old : part s (length s - length t - m) m ≡ e .old =
+    rw (body, ← drop-drop (o .c) (k + r .a + u .b) s, ← d) (o .old-is)
+    in
+    rw (← is) (record {
+      entry = e;
+      front-is = f ∙ ap (λ (l : List ℕ). front e l) rest;
+      place-is = refl;
+      put-is = refl;
+      taken-is = refl;
+      old-is = old;
+      next-is = omega arith;
+      after = omega arith;
+      inside = omega arith;
+    })
+
+head-by : (s : List ℕ) (k : ℕ) (f : Front) (h : EntryHead) → frontOf (drop k s) ≡ f → headOf f (length s) ≡ head.Entry h → HeadRead s k h
+head-by s k (front e t) h f g = head-of-front s k e t h f g
+head-by s k none h f g =
+    let e : head.Broken ≡ head.Entry h = unfold headOf in g in
+    let z : _≡_ {A = ℕ} 0 1 = cc in
+    absurd (omega arith)
+
+pub head-read : (s : List ℕ) (k : ℕ) (h : EntryHead) {r : EntryRead} → r ≡ headOf (frontOf (drop k s)) (length s) → r ≡ head.Entry h
+    → HeadRead s k h
+head-read s k h e f = head-by s k (frontOf (drop k s)) h refl (sym e ∙ f)
+
+none-by : (f : Front) (n : ℕ) → headOf f n ≡ head.Broken → f ≡ none
+unfolding headOf
+none-by (front e t) n g = let z : _≡_ {A = ℕ} 0 1 = cc in absurd (omega arith)
+none-by none n g = refl
+
+pub head-broken : (s : List ℕ) (k n : ℕ) {r : EntryRead} → r ≡ headOf (frontOf (drop k s)) n → r ≡ head.Broken
+    → frontOf (drop k s) ≡ none
+head-broken s k n e f = none-by (frontOf (drop k s)) n (sym e ∙ f)
+
+-- the entry's size is what lies between
+pub head-size : (s : List ℕ) (k : ℕ) (h : EntryHead) → AllBytes s → (r : HeadRead s k h) → k + entrySize (r .entry) ≡ h .next
+unfolding entrySize
+head-size s k h b r =
+    let e : drop k s ≡ entryBytes (r .entry) ++ drop (h .next) s =
+    front-canonical (drop k s) (r .entry) (drop (h .next) s) (bytes-drop k s b) (r .front-is) .0
+    in
+    omega (
+      arith,
+      ap length e,
+      length-append (entryBytes (r .entry)) (drop (h .next) s),
+      length-drop k s,
+      length-drop (h .next) s,
+      r .after,
+      r .next-is,
+      r .inside,
+    )
+
+-- ---- counting entries, turn by turn
+
+-- n entries more
+unfoldable pub added : ℕ → HistoryRead → HistoryRead
+added n (read.Entries m) = read.Entries (n + m)
+added n read.Broken = read.Broken
+
+added-none : (r : HistoryRead) → r ≡ added 0 r
+unfolding added
+added-none (read.Entries m) = rw zero-add
+added-none read.Broken = refl
+
+counted-next : (n : ℕ) (e : Entry) (t : List ℕ) (r : Entries) → added n (counted (before (front e t) r)) ≡ added (n + 1) (counted r)
+unfolding added counted before
+counted-next n e t (whole es) = let f : n + suc (length es) ≡ n + 1 + length es = omega arith in rw f
+counted-next n e t broken = refl
+
+pub counted-start : (s : List ℕ) → counted (entriesOf s) ≡ added 0 (counted (entriesOf (drop 0 s)))
+counted-start s = added-none (counted (entriesOf s))
+
+pub counted-turn : (s : List ℕ) (k n m : ℕ) (h : EntryHead) (all : HistoryRead) → all ≡ added n (counted (entriesOf (drop k s)))
+    → HeadRead s k h → m ≡ n + 1 → all ≡ added m (counted (entriesOf (drop (h .next) s)))
+counted-turn s k n m h all e r one =
+    let t = drop (h .next) s in
+    e ∙ rw (one, entries-next (drop k s) (r .entry) t (r .front-is)) (counted-next n (r .entry) t (entriesOf t))
+
+pub counted-stop : (s : List ℕ) (k n : ℕ) (all : HistoryRead) → all ≡ added n (counted (entriesOf (drop k s))) → k < length s
+    → frontOf (drop k s) ≡ none → read.Broken ≡ all
+unfolding added counted
+counted-stop s k n all e h f = sym (e ∙ rw (entries-stop (drop k s) (omega (arith, length-drop k s)) f))
+
+pub counted-end : (s : List ℕ) (k n : ℕ) (all : HistoryRead) → all ≡ added n (counted (entriesOf (drop k s))) → length s ≤ k
+    → read.Entries n ≡ all
+unfolding added counted
+counted-end s k n all e h =
+    let z : n + 0 ≡ n = omega arith in
+    sym (e ∙ rw (drop-of-length-le s h, entries-none, z))
+
+-- ---- the run that fits, turn by turn
+
+-- k bytes and n entries are passed
+unfoldable pub runFrom : ℕ → ℕ → ℕ → Entries → Run
+runFrom k n room (whole es) =
+    record { bytes = k + length (historyBytes (kept (room - k) es)); entries = n + length (kept (room - k) es) }
+runFrom k n room broken = record { bytes = 0; entries = 0 }
+
+run-zero : (room : ℕ) (r : Entries) → runOf r room ≡ runFrom 0 0 room r
+unfolding runOf runFrom
+run-zero room (whole es) =
+    let z : room - 0 ≡ room = omega arith in
+    rw (z, zero-add (length (historyBytes (kept room es))), zero-add (length (kept room es)))
+run-zero room broken = refl
+
+run-next : (k n room next : ℕ) (e : Entry) (t : List ℕ) (r : Entries) → k + entrySize e ≡ next → next ≤ room
+    → runFrom k n room (before (front e t) r) ≡ runFrom next (n + 1) room r
+unfolding runFrom before
+run-next k n room next e t (whole es) h g =
+    let left : room - k - entrySize e ≡ room - next = omega arith in
+    let f : kept (room - k) (e ∷ es) ≡ e ∷ kept (room - next) es = kept-more (room - k) e es (omega arith) ∙ rw left in
+    let l = kept (room - next) es in
+    let b : k + length (historyBytes (e ∷ l)) ≡ next + length (historyBytes l) = omega (arith, history-size e l) in
+    let c : n + suc (length l) ≡ n + 1 + length l = omega arith in
+    rw (f, b, c)
+run-next k n room next e t broken h g = refl
+
+run-full : (k n room next : ℕ) (e : Entry) (t : List ℕ) (r : Entries) → k + entrySize e ≡ next → room < next → k ≤ room
+    → (before (front e t) r ≡ broken → ⊥) → record { bytes = k; entries = n } ≡ runFrom k n room (before (front e t) r)
+unfolding runFrom before
+run-full k n room next e t (whole es) h g i u =
+    let b : k ≡ k + 0 = omega arith in
+    let c : n ≡ n + 0 = omega arith in
+    rw (kept-stop (room - k) e es (omega arith), history-none, ← b, ← c)
+run-full k n room next e t broken h g i u = absurd (u refl)
+
+not-broken : (e : Entry) (t : List ℕ) (r : Entries) → (before (front e t) r ≡ broken → ⊥) → r ≡ broken → ⊥
+unfolding before
+not-broken e t r u z = u (rw z)
+
+-- so far: the run of all is what is passed and then the run of the rest, which is whole entries
+pub record Fitting (s : List ℕ) (room k n : ℕ) : Type 0 where
+  pub same : runOf (entriesOf s) room ≡ runFrom k n room (entriesOf (drop k s))
+  pub sound : entriesOf (drop k s) ≡ broken → ⊥
+
+pub fitting-start : (s : List ℕ) (room : ℕ) → (counted (entriesOf s) ≡ read.Broken → ⊥) → Fitting s room 0 0
+unfolding counted
+fitting-start s room u = record { same = run-zero room (entriesOf s); sound = λ e. u (rw e) }
+
+pub fitting-turn : {s : List ℕ} {room k n : ℕ} {h : EntryHead} → AllBytes s → Fitting s room k n → HeadRead s k h → h .next ≤ room
+    → Fitting s room (h .next) (n + 1)
+fitting-turn {s} {room} {k} {n} {h} b f r g =
+    let t = drop (h .next) s in
+    let e = entries-next (drop k s) (r .entry) t (r .front-is) in
+    let u : before (front (r .entry) t) (entriesOf t) ≡ broken → ⊥ = λ z. f .sound (e ∙ z) in
+    record {
+      same = f .same ∙ rw e (run-next k n room (h .next) (r .entry) t (entriesOf t) (head-size s k h b r) g);
+      sound = not-broken (r .entry) t (entriesOf t) u;
+    }
+
+pub fitting-full : {s : List ℕ} {room k n : ℕ} {h : EntryHead} → AllBytes s → Fitting s room k n → HeadRead s k h → k ≤ room
+    → room < h .next → record { bytes = k; entries = n } ≡ runOf (entriesOf s) room
+fitting-full {s} {room} {k} {n} {h} b f r i g =
+    let t = drop (h .next) s in
+    let e = entries-next (drop k s) (r .entry) t (r .front-is) in
+    let u : before (front (r .entry) t) (entriesOf t) ≡ broken → ⊥ = λ z. f .sound (e ∙ z) in
+    run-full k n room (h .next) (r .entry) t (entriesOf t) (head-size s k h b r) g i u ∙ sym (f .same ∙ rw e refl)
+
+pub fitting-end : {s : List ℕ} {room k n : ℕ} → Fitting s room k n → length s ≤ k → record { bytes = k; entries = n } ≡ runOf (entriesOf s) room
+unfolding runFrom
+fitting-end {s} {room} {k} {n} f h =
+    let b : k + 0 ≡ k = omega arith in
+    let c : n + 0 ≡ n = omega arith in
+    sym (f .same ∙ rw (drop-of-length-le s h, entries-none, kept-none (room - k), history-none, b, c))
+
+pub fitting-whole : {A : Type 0} {s : List ℕ} {room k n : ℕ} → Fitting s room k n → k < length s → frontOf (drop k s) ≡ none → A
+fitting-whole {A} {s} {room} {k} f h g = absurd (f .sound (entries-stop (drop k s) (omega (arith, length-drop k s)) g))
+
+-- ---- what the scans say of a history
+
+-- n whole entries
+pub record Held (s : List ℕ) (n : ℕ) : Type 0 where
+  pub held : List Entry
+  pub held-is : entriesOf s ≡ whole held
+  pub many : length held ≡ n
+
+held-by : (s : List ℕ) (n : ℕ) (r : Entries) → entriesOf s ≡ r → counted r ≡ read.Entries n → Held s n
+unfolding counted
+held-by s n (whole es) e f = record { held = es; held-is = e; many = cc }
+held-by s n broken e f = let z : _≡_ {A = ℕ} 0 1 = cc in absurd (omega arith)
+
+pub counted-held : (s : List ℕ) (n : ℕ) → counted (entriesOf s) ≡ read.Entries n → Held s n
+counted-held s n f = held-by s n (entriesOf s) refl f
+
+pub counted-history : (es : List Entry) → AllGood es → counted (entriesOf (historyBytes es)) ≡ read.Entries (length es)
+unfolding counted
+counted-history es g = rw (entries-return es g)
+
+pub run-history : (es : List Entry) (room : ℕ) → AllGood es
+    → runOf (entriesOf (historyBytes es)) room
+    ≡ record { bytes = length (historyBytes (kept room es)); entries = length (kept room es) }
+unfolding runOf
+run-history es room g = rw (entries-return es g)
+
+-- the head of a history's first entry
+pub head-first : (e : Entry) (es : List Entry) → GoodEntry e
+    → headOf (frontOf (historyBytes (e ∷ es))) (length (historyBytes (e ∷ es)))
+    ≡ head.Entry (record {
+      place = e .place;
+      put = e .put;
+      taken = length (e .old);
+      body = entrySize e - length (e .old);
+      next = entrySize e;
+    })
+unfolding headOf
+head-first e es g =
+    let n : length (historyBytes (e ∷ es)) - length (historyBytes es) ≡ entrySize e = omega (arith, history-size e es) in
+    rw (history-first e es g, n)

@@ -1,0 +1,5 @@
+-- The history: entries that undo edits of a byte list. Nothing here knows what a codeplug is.
+pub mod Number
+pub mod Entry
+pub mod History
+pub mod Scan

@@ -1,0 +1,26 @@
+-- How the scan of a history names what it finds; no promise to a caller rests on more than these say.
+use Prim.Native.Nat.{ℕ, _-_}
+use mathlib.Core.List.{List}
+use lib.ListN.{length}
+use Rattle.journal.specs.Entry.{Entry, Front, front, none, Entries, whole, broken, historyBytes}
+use Rattle.journal.specs.History.{kept}
+use Rattle.journal.specs.declared.scan.EntryRead.{EntryRead}
+use Rattle.journal.specs.declared.scan.EntryRead.the-variants as read
+use Rattle.journal.specs.declared.scan.Run.{Run}
+
+-- the entry at the front of the rest of a history of n bytes: its old bytes end where what follows it begins
+unfoldable pub headOf : Front → ℕ → EntryRead
+headOf (front e s) n =
+    read.Entry (record {
+      place = e .place;
+      put = e .put;
+      taken = length (e .old);
+      body = n - length s - length (e .old);
+      next = n - length s;
+    })
+headOf none n = read.Broken
+
+-- the run of entries that is kept within so many bytes
+unfoldable pub runOf : Entries → ℕ → Run
+runOf (whole es) room = record { bytes = length (historyBytes (kept room es)); entries = length (kept room es) }
+runOf broken room = record { bytes = 0; entries = 0 }

@@ -1,0 +1,3 @@
+-- A codeplug as lists of records, its file, and the twelve edits on it.
+pub mod Plug
+pub mod Edits
