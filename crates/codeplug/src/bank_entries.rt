@@ -13,7 +13,7 @@ ghost use Rattle.codeplug.specs.Read.{entriesAnswer, entriesRead, entryR
 ghost use Rattle.layout.specs.Places.{bankCount};
 
 // The bytes of a bank's entries, none beside a refusal.
-pub fn entries_of(verdict: Verdict, f: &[u8], p: usize) -> &[u8]
+pub(crate) fn entries_of(verdict: Verdict, f: &[u8], p: usize) -> &[u8]
     requires { ⌜ p < 2 ^ 50 ⌝ }
     ensures { λ r. ⌜ now r ≡ entriesAnswer verdict (now (f .entry)) p ⌝ }
 {

@@ -74,7 +74,7 @@ pub fn header(f: &[u8]) -> HeaderRead
 }
 
 // The file's refusal, then 33 unless n is below the count.
-pub fn place(f: &[u8], n: usize, count: usize) -> Verdict
+pub(crate) fn place(f: &[u8], n: usize, count: usize) -> Verdict
     ensures { λ r. ⌜ r ≡ placeRule (now (f .entry)) n count ⌝ }
 {
     first(verdict_on(f), unless(n < count, NO_PLACE, 0))
@@ -120,7 +120,7 @@ fn blank_bank() -> Bank
 }
 
 // The answer for a verdict on a bank's bytes; a good verdict comes only with the first 34 of them.
-pub fn bank_answer(verdict: Verdict, s: &[u8]) -> BankRead
+pub(crate) fn bank_answer(verdict: Verdict, s: &[u8]) -> BankRead
     requires { ⌜ (verdict ≡ Verdict.Good → 34 ≤ length (now s)) ⌝ }
     ensures { λ r. ⌜ r ≡ bankAnswer verdict (now (s .entry)) ⌝ }
 {

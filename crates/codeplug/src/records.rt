@@ -13,14 +13,14 @@ ghost use Prim.Native.Nat.{_<_, _^_};
 ghost use Rattle.codeplug.specs.File.{contactAt, contactsRule, namesContact, indexOk, channelAt, channelsRule};
 
 // The contact at p.
-pub fn contact_at(f: &[u8], p: usize) -> Verdict
+pub(crate) fn contact_at(f: &[u8], p: usize) -> Verdict
     requires { ⌜ p < 2 ^ 62 ⌝ }
     ensures { λ r. ⌜ r ≡ contactAt (now (f .entry)) p ⌝ }
 {
     contact::judge::judge(lend(f, p, 39), p)
 }
 
-pub fn judge_contacts(f: &[u8]) -> Verdict
+pub(crate) fn judge_contacts(f: &[u8]) -> Verdict
     ensures { λ r. ⌜ r ≡ contactsRule (now (f .entry)) ⌝ }
 {
     let contacts = contact_count(f);
@@ -57,7 +57,7 @@ pub fn index_ok(f: &[u8], s: &[u8]) -> bool
 }
 
 // The channel at p.
-pub fn channel_at(f: &[u8], p: usize) -> Verdict
+pub(crate) fn channel_at(f: &[u8], p: usize) -> Verdict
     requires { ⌜ p < 2 ^ 62 ⌝ }
     ensures { λ r. ⌜ r ≡ channelAt (now (f .entry)) p ⌝ }
 {
@@ -65,7 +65,7 @@ pub fn channel_at(f: &[u8], p: usize) -> Verdict
     channel::judge::judge(s, p, index_ok(f, s))
 }
 
-pub fn judge_channels(f: &[u8]) -> Verdict
+pub(crate) fn judge_channels(f: &[u8]) -> Verdict
     ensures { λ r. ⌜ r ≡ channelsRule (now (f .entry)) ⌝ }
 {
     let channels = channel_count(f);

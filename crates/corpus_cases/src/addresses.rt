@@ -37,7 +37,7 @@ fn decode_case(case: &[u8], room: &mut [u8]) {
     decode(le64(case, 1), &mut room[..n]);
 }
 
-pub fn case_of(case: &[u8], room: &mut [u8]) {
+pub(crate) fn case_of(case: &[u8], room: &mut [u8]) {
     if byte_at(case, 0) == 0 {
         print_encoded(m17::encode(case::rest(case, 1)));
     } else {

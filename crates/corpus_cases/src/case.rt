@@ -8,7 +8,7 @@ ghost use Rattle.io.specs.Counts.{Counts};
 
 // Reads a case, a length of four bytes, low byte first, and then its bytes, into the start of a buffer, and answers how many bytes it
 // has; -1 where the input ends or the case does not fit.
-pub fn read(buffer: &mut [u8]) -> isize {
+pub(crate) fn read(buffer: &mut [u8]) -> isize {
     let mut size = [0u8; 4];
     if io::read_full(STDIN_FILENO, &mut size) < 4 {
         return -1;
@@ -26,7 +26,7 @@ pub fn read(buffer: &mut [u8]) -> isize {
 }
 
 // The w bytes of a case at k, fewer where the case ends.
-pub fn part(case: &[u8], k: usize, w: usize) -> &[u8] {
+pub(crate) fn part(case: &[u8], k: usize, w: usize) -> &[u8] {
     let n = case.len();
     if n <= k {
         return &case[n..];
@@ -38,7 +38,7 @@ pub fn part(case: &[u8], k: usize, w: usize) -> &[u8] {
 }
 
 // What stands in a case from k on.
-pub fn rest(case: &[u8], k: usize) -> &[u8] {
+pub(crate) fn rest(case: &[u8], k: usize) -> &[u8] {
     if case.len() <= k {
         return &case[case.len()..];
     }
@@ -46,14 +46,14 @@ pub fn rest(case: &[u8], k: usize) -> &[u8] {
 }
 
 // The string at k.
-pub fn string(case: &[u8], k: usize) -> &[u8]
+pub(crate) fn string(case: &[u8], k: usize) -> &[u8]
     requires { ⌜ k < 2 ^ 32 ⌝ }
 {
     part(case, k + 1, byte_at(case, k) as usize)
 }
 
 // The place past the string at k.
-pub fn past_string(case: &[u8], k: usize) -> usize
+pub(crate) fn past_string(case: &[u8], k: usize) -> usize
     requires { ⌜ k < 2 ^ 32 ⌝ }
     ensures { λ r. ⌜ r < k + 257 ⌝ }
 {
@@ -61,7 +61,7 @@ pub fn past_string(case: &[u8], k: usize) -> usize
 }
 
 // Puts bytes at the start of a room and answers how many they are; none where they do not fit.
-pub fn put_first(room: &mut [u8], bytes: &[u8]) -> usize
+pub(crate) fn put_first(room: &mut [u8], bytes: &[u8]) -> usize
     ensures { λ r. ⌜ Counts r (now (room .exit)) ⌝ }
 {
     let n = bytes.len();

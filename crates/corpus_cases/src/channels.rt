@@ -32,7 +32,7 @@ fn write_case(case: &[u8], room: &mut [u8]) {
     write(case, k, &mut room[..n]);
 }
 
-pub fn case_of(case: &[u8], room: &mut [u8]) {
+pub(crate) fn case_of(case: &[u8], room: &mut [u8]) {
     if byte_at(case, 0) == 0 {
         shown::print_read(channel::read::read(case::rest(case, 1)));
     } else {

@@ -85,7 +85,7 @@ fn write_case(case: &[u8], room: &mut [u8]) {
     write(case, &mut room[..n]);
 }
 
-pub fn case_of(case: &[u8], room: &mut [u8]) {
+pub(crate) fn case_of(case: &[u8], room: &mut [u8]) {
     if byte_at(case, 0) == 0 {
         print_read(contact::read::read(case::rest(case, 1)));
     } else {

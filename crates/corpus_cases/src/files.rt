@@ -14,6 +14,6 @@ fn print_judgement(j: Judged) {
     print::word(b"\n");
 }
 
-pub fn judge(file: &[u8]) {
+pub(crate) fn judge(file: &[u8]) {
     print_judgement(codeplug::judge::judge(file));
 }

@@ -32,7 +32,7 @@ fn location_at(case: &[u8], k: usize) -> Location
 }
 
 // What stands before the texts, from the mode at k on, and the location, at l.
-pub fn common_at(case: &[u8], k: usize, l: usize) -> Common
+pub(crate) fn common_at(case: &[u8], k: usize, l: usize) -> Common
     requires { ⌜ (k < 2 ^ 32) × (l < 2 ^ 32) ⌝ }
 {
     let traits = Traits {
@@ -112,7 +112,7 @@ fn m17_at(case: &[u8], k: usize) -> M17Info
     }
 }
 
-pub fn info_at(case: &[u8], mode: u8, k: usize) -> Info
+pub(crate) fn info_at(case: &[u8], mode: u8, k: usize) -> Info
     requires { ⌜ k < 2 ^ 32 ⌝ }
 {
     if mode == channel::FM {

@@ -4,18 +4,18 @@ use fields::numbers::wide_at;
 use fields::rule::Verdict;
 use libc::STDOUT_FILENO;
 
-pub fn word(s: &[u8]) {
+pub(crate) fn word(s: &[u8]) {
     io::write_all(STDOUT_FILENO, s);
 }
 
 // A number after what says which.
-pub fn number(label: &[u8], n: u64) {
+pub(crate) fn number(label: &[u8], n: u64) {
     word(label);
     io::print_decimal(STDOUT_FILENO, n);
 }
 
 // Two digits for each byte, or a hyphen for no bytes.
-pub fn bytes(s: &[u8]) {
+pub(crate) fn bytes(s: &[u8]) {
     if s.len() == 0 {
         word(b"-");
         return;
@@ -37,18 +37,18 @@ fn text_length(s: &[u8]) -> usize {
 }
 
 // A text field's bytes without its padding, after what says which.
-pub fn text(label: &[u8], field: &[u8]) {
+pub(crate) fn text(label: &[u8], field: &[u8]) {
     word(label);
     bytes(part(field, 0, text_length(field)));
 }
 
-pub fn refusal(n: u8, place: usize) {
+pub(crate) fn refusal(n: u8, place: usize) {
     number(b"refused ", n as u64);
     number(b" at ", place as u64);
 }
 
 // What a writer answered, and its whole buffer afterwards.
-pub fn written(verdict: Verdict, out: &[u8]) {
+pub(crate) fn written(verdict: Verdict, out: &[u8]) {
     match verdict {
         Verdict::Good => word(b"wrote"),
         Verdict::Refused(n, p) => refusal(n, p),

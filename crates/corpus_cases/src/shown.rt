@@ -127,7 +127,7 @@ fn print_channel(c: Channel) {
     print_info(info);
 }
 
-pub fn print_read(r: ChannelRead) {
+pub(crate) fn print_read(r: ChannelRead) {
     let verdict = r.verdict;
     match verdict {
         Verdict::Good => print_channel(r.channel),

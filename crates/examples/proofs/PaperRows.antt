@@ -8,7 +8,18 @@ use Rattle.fields.specs.Bytes.{zeros}
 use Rattle.fields.specs.Rule.{fieldOf, unless, _then_}
 use Rattle.fields.specs.declared.rule.Verdict.{Verdict}
 use Rattle.fields.specs.declared.rule.Verdict.the-variants as verdict
+use Rattle.fields.specs.Bytes.{little, littleBytes}
 use Rattle.channel.specs.Channel.{fmRule}
+use Rattle.layout.specs.Places.{contactCount, channelCount, bankCount, contactPlace, channelPlace, offsetPlace, banksPlace}
+use Rattle.moves.specs.Common.{commonStart, commonEnd}
+use Rattle.journal.specs.Number.{numberBytes, groups, numberAt, groupsAt, atMost, withGroup}
+use Rattle.journal.specs.Entry.{entryBytes, entriesOf, entriesUpTo, frontOf, withPlace, withPut, withOld, before, restOf}
+use Rattle.journal.specs.Change.{entryOf, tailOf}
+use Rattle.journal.specs.Machine.{isWhole}
+use Rattle.plug.specs.Plug.{plugOf, plugBytes, joined, bankBytes, pairs, offsetsFrom, countBytes, blocks, banksAt}
+use Rattle.plug.specs.Edits.{kindOf, edited, insertAt, withBanks, withTitle}
+use Rattle.edit.specs.Result.{result}
+use Rattle.edit.specs.Setting.{Asked, applied, appliedKind}
 use Rattle.m17.specs.Address.{encoding, decoding, addressOf, digitOf, firstForeign, foreign, endsInSpace, within, isCallsign, textFor, textUpTo, charOf}
 use Rattle.m17.specs.declared.Encoded.{Encoded}
 use Rattle.m17.specs.declared.Encoded.the-variants as encoded
@@ -28,7 +39,19 @@ Means b t f = (toneOf b ≡ t) × (frequencyOf (toneIndex t) ≡ Tenths f)
 abbrev withTone : ℕ → List ℕ
 withTone b = zeros 85 ++ (b ∷ zeros 4)
 
--- "A", "AB1CD", space A, A space, nine dots, 40^9, the empty text; tones 0x1F, 0x8E, 0x31 and 0x32
+-- the 88-byte file with no records, empty texts and a timestamp below 256
+abbrev empty : ℕ → List ℕ
+empty t = 0x52 ∷ 0x54 ∷ 0x58 ∷ 0x43 ∷ 0 ∷ 0 ∷ 0 ∷ 0 ∷ 1 ∷ 0 ∷ (zeros 64 ++ (t ∷ zeros 13))
+
+-- set author, description and timestamp 1; insert a nameless bank
+abbrev dated : Asked
+dated = record { kind = 12; first = 0; second = 0; bytes = zeros 64 ++ (1 ∷ zeros 7) }
+
+abbrev banked : Asked
+banked = record { kind = 7; first = 0; second = 0; bytes = zeros 32 }
+
+-- "A", "AB1CD", space A, A space, nine dots, 40^9, the empty text; tones 0x1F, 0x8E, 0x31 and 0x32; numbers 127 and 128; 80 00; the
+-- timestamp edit's entry; the nameless bank's
 abbrev pub Rows : Type 0
 Rows =
     (encoding (65 ∷ []) ≡ encoded.Number 1)
@@ -42,7 +65,12 @@ Rows =
     × Means 0x8E (Enabled 14) 1072
     × (fmRule (withTone 0x31) 0 ≡ verdict.Good)
     × (fmRule (withTone 0x32) 0 ≡ verdict.Refused 7 85)
+    × (numberBytes 127 ≡ 0x7F ∷ [])
+    × (numberBytes 128 ≡ 0x80 ∷ 0x01 ∷ [])
+    × (isWhole (entriesOf (0x80 ∷ 0x00 ∷ [])) ≡ verdict.Refused 31 0)
+    × (entryBytes (entryOf (empty 0) (applied dated (empty 0))) ≡ 0x4A ∷ 0x01 ∷ 0x01 ∷ 0x00 ∷ [])
+    × (entryBytes (entryOf (empty 0) (applied banked (empty 0))) ≡ 0x56 ∷ 0x26 ∷ 0x00 ∷ [])
 
 pub paper-rows : Rows
-unfolding encoding decoding addressOf digitOf firstForeign foreign endsInSpace within isCallsign textFor textUpTo charOf toneOf toneOk toneIndex frequencyOf toneTable zeros unless fieldOf _then_ fmRule
-paper-rows = (refl, refl, refl, refl, refl, refl, refl, (refl, refl), (refl, refl), refl, refl)
+unfolding encoding decoding addressOf digitOf firstForeign foreign endsInSpace within isCallsign textFor textUpTo charOf toneOf toneOk toneIndex frequencyOf toneTable zeros unless fieldOf _then_ fmRule numberBytes groups entriesOf entriesUpTo frontOf withPlace withPut withOld numberAt groupsAt atMost withGroup before restOf isWhole entryBytes entryOf tailOf commonStart commonEnd applied appliedKind kindOf result plugOf plugBytes edited insertAt withBanks withTitle joined bankBytes pairs offsetsFrom countBytes blocks banksAt contactCount channelCount bankCount contactPlace channelPlace offsetPlace banksPlace little littleBytes
+paper-rows = (refl, refl, refl, refl, refl, refl, refl, (refl, refl), (refl, refl), refl, refl, refl, refl, refl, refl, refl)

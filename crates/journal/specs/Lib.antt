@@ -3,3 +3,6 @@ pub mod Number
 pub mod Entry
 pub mod History
 pub mod Scan
+pub mod Change
+pub mod Machine
+pub mod Book

@@ -8,29 +8,44 @@ use Rattle.fields.specs.Bytes.{part, num, over, littleBytes, little}
 use Rattle.channel.specs.Channel.{namedContact}
 use Rattle.channel.specs.declared.ContactIndex.{ContactIndex}
 use Rattle.channel.specs.declared.ContactIndex.the-variants.{Nobody, Index}
+use Rattle.plug.specs.declared.Kind.{Kind}
+use Rattle.plug.specs.declared.Kind.the-variants.{InsertContact, RemoveContact, ReplaceContact, InsertChannel, RemoveChannel, ReplaceChannel, InsertBank, RemoveBank, RenameBank, InsertEntry, RemoveEntry, SetTitle}
+use Rattle.plug.specs.declared.KindRead.{KindRead}
+use Rattle.plug.specs.declared.KindRead.the-variants as read
 use Rattle.plug.specs.Plug.{Bank, Plug}
 
 -- ---- the kinds, with the length of each one's record
 
-pub data Kind : Type 0 where
-  insert-contact remove-contact replace-contact : Kind
-  insert-channel remove-channel replace-channel : Kind
-  insert-bank remove-bank rename-bank : Kind
-  insert-entry remove-entry set-title : Kind
+-- an edit's kind by the paper's number
+unfoldable pub kindOf : ℕ → KindRead
+kindOf n =
+    cond (eqb n 1) (read.Known InsertContact)
+    (cond (eqb n 2) (read.Known RemoveContact)
+    (cond (eqb n 3) (read.Known ReplaceContact)
+    (cond (eqb n 4) (read.Known InsertChannel)
+    (cond (eqb n 5) (read.Known RemoveChannel)
+    (cond (eqb n 6) (read.Known ReplaceChannel)
+    (cond (eqb n 7) (read.Known InsertBank)
+    (cond (eqb n 8) (read.Known RemoveBank)
+    (cond (eqb n 9) (read.Known RenameBank)
+    (cond (eqb n 10) (read.Known InsertEntry)
+    (cond (eqb n 11) (read.Known RemoveEntry)
+    (cond (eqb n 12) (read.Known SetTitle)
+    read.NoKind)))))))))))
 
 unfoldable pub recordLength : Kind → ℕ
-recordLength insert-contact = 39
-recordLength remove-contact = 0
-recordLength replace-contact = 39
-recordLength insert-channel = 90
-recordLength remove-channel = 0
-recordLength replace-channel = 90
-recordLength insert-bank = 32
-recordLength remove-bank = 0
-recordLength rename-bank = 32
-recordLength insert-entry = 2
-recordLength remove-entry = 0
-recordLength set-title = 72
+recordLength InsertContact = 39
+recordLength RemoveContact = 0
+recordLength ReplaceContact = 39
+recordLength InsertChannel = 90
+recordLength RemoveChannel = 0
+recordLength ReplaceChannel = 90
+recordLength InsertBank = 32
+recordLength RemoveBank = 0
+recordLength RenameBank = 32
+recordLength InsertEntry = 2
+recordLength RemoveEntry = 0
+recordLength SetTitle = 72
 
 -- ---- lists
 
@@ -102,18 +117,18 @@ unfoldable pub withEntries : (List ℕ → List ℕ) → Bank → Bank
 withEntries g b = record { name = b .name; entries = g (b .entries) }
 
 unfoldable pub edited : Kind → ℕ → ℕ → List ℕ → Plug → Plug
-edited insert-contact i j r c = withContacts (insertAt i r (c .contacts)) (moveContacts (raised i) c)
-edited remove-contact i j r c = withContacts (removeAt i (c .contacts)) (moveContacts (lowered i) c)
-edited replace-contact i j r c = withContacts (replaceAt i r (c .contacts)) c
-edited insert-channel i j r c = withChannels (insertAt i r (c .channels)) (moveChannels (raised i) c)
-edited remove-channel i j r c = withChannels (removeAt i (c .channels)) (moveChannels (lowered i) c)
-edited replace-channel i j r c = withChannels (replaceAt i r (c .channels)) c
-edited insert-bank i j r c = withBanks (insertAt i (record { name = r; entries = [] }) (c .banks)) c
-edited remove-bank i j r c = withBanks (removeAt i (c .banks)) c
-edited rename-bank i j r c = withBanks (changeAt i (named r) (c .banks)) c
-edited insert-entry i j r c = withBanks (changeAt i (withEntries (insertAt j (little r))) (c .banks)) c
-edited remove-entry i j r c = withBanks (changeAt i (withEntries (removeAt j)) (c .banks)) c
-edited set-title i j r c = withTitle (take 10 (c .title) ++ r) c
+edited InsertContact i j r c = withContacts (insertAt i r (c .contacts)) (moveContacts (raised i) c)
+edited RemoveContact i j r c = withContacts (removeAt i (c .contacts)) (moveContacts (lowered i) c)
+edited ReplaceContact i j r c = withContacts (replaceAt i r (c .contacts)) c
+edited InsertChannel i j r c = withChannels (insertAt i r (c .channels)) (moveChannels (raised i) c)
+edited RemoveChannel i j r c = withChannels (removeAt i (c .channels)) (moveChannels (lowered i) c)
+edited ReplaceChannel i j r c = withChannels (replaceAt i r (c .channels)) c
+edited InsertBank i j r c = withBanks (insertAt i (record { name = r; entries = [] }) (c .banks)) c
+edited RemoveBank i j r c = withBanks (removeAt i (c .banks)) c
+edited RenameBank i j r c = withBanks (changeAt i (named r) (c .banks)) c
+edited InsertEntry i j r c = withBanks (changeAt i (withEntries (insertAt j (little r))) (c .banks)) c
+edited RemoveEntry i j r c = withBanks (changeAt i (withEntries (removeAt j)) (c .banks)) c
+edited SetTitle i j r c = withTitle (take 10 (c .title) ++ r) c
 
 -- ---- what refuses an edit before its result is read
 
@@ -125,33 +140,33 @@ entriesIn (suc i) (b ∷ l) = entriesIn i l
 
 -- 33: an insertion's place runs from 0 to the count, any other stays below it; an unused place must be 0
 unfoldable pub placeOk : Kind → ℕ → ℕ → Plug → Bool
-placeOk insert-contact i j c = leb i (length (c .contacts)) && eqb j 0
-placeOk remove-contact i j c = ltb i (length (c .contacts)) && eqb j 0
-placeOk replace-contact i j c = ltb i (length (c .contacts)) && eqb j 0
-placeOk insert-channel i j c = leb i (length (c .channels)) && eqb j 0
-placeOk remove-channel i j c = ltb i (length (c .channels)) && eqb j 0
-placeOk replace-channel i j c = ltb i (length (c .channels)) && eqb j 0
-placeOk insert-bank i j c = leb i (length (c .banks)) && eqb j 0
-placeOk remove-bank i j c = ltb i (length (c .banks)) && eqb j 0
-placeOk rename-bank i j c = ltb i (length (c .banks)) && eqb j 0
-placeOk insert-entry i j c = ltb i (length (c .banks)) && leb j (entriesIn i (c .banks))
-placeOk remove-entry i j c = ltb i (length (c .banks)) && ltb j (entriesIn i (c .banks))
-placeOk set-title i j c = eqb i 0 && eqb j 0
+placeOk InsertContact i j c = leb i (length (c .contacts)) && eqb j 0
+placeOk RemoveContact i j c = ltb i (length (c .contacts)) && eqb j 0
+placeOk ReplaceContact i j c = ltb i (length (c .contacts)) && eqb j 0
+placeOk InsertChannel i j c = leb i (length (c .channels)) && eqb j 0
+placeOk RemoveChannel i j c = ltb i (length (c .channels)) && eqb j 0
+placeOk ReplaceChannel i j c = ltb i (length (c .channels)) && eqb j 0
+placeOk InsertBank i j c = leb i (length (c .banks)) && eqb j 0
+placeOk RemoveBank i j c = ltb i (length (c .banks)) && eqb j 0
+placeOk RenameBank i j c = ltb i (length (c .banks)) && eqb j 0
+placeOk InsertEntry i j c = ltb i (length (c .banks)) && leb j (entriesIn i (c .banks))
+placeOk RemoveEntry i j c = ltb i (length (c .banks)) && ltb j (entriesIn i (c .banks))
+placeOk SetTitle i j c = eqb i 0 && eqb j 0
 
 -- 34: the count to grow is 65,535
 unfoldable pub countOk : Kind → ℕ → Plug → Bool
-countOk insert-contact i c = not (eqb (length (c .contacts)) 65535)
-countOk remove-contact i c = true
-countOk replace-contact i c = true
-countOk insert-channel i c = not (eqb (length (c .channels)) 65535)
-countOk remove-channel i c = true
-countOk replace-channel i c = true
-countOk insert-bank i c = not (eqb (length (c .banks)) 65535)
-countOk remove-bank i c = true
-countOk rename-bank i c = true
-countOk insert-entry i c = not (eqb (entriesIn i (c .banks)) 65535)
-countOk remove-entry i c = true
-countOk set-title i c = true
+countOk InsertContact i c = not (eqb (length (c .contacts)) 65535)
+countOk RemoveContact i c = true
+countOk ReplaceContact i c = true
+countOk InsertChannel i c = not (eqb (length (c .channels)) 65535)
+countOk RemoveChannel i c = true
+countOk ReplaceChannel i c = true
+countOk InsertBank i c = not (eqb (length (c .banks)) 65535)
+countOk RemoveBank i c = true
+countOk RenameBank i c = true
+countOk InsertEntry i c = not (eqb (entriesIn i (c .banks)) 65535)
+countOk RemoveEntry i c = true
+countOk SetTitle i c = true
 
 -- 35: some DMR or M17 channel names contact i
 unfoldable pub isIndex : ℕ → ContactIndex → Bool
@@ -172,15 +187,15 @@ someHolds i [] = false
 someHolds i (b ∷ l) = holds i (b .entries) || someHolds i l
 
 unfoldable pub inUse : Kind → ℕ → Plug → Bool
-inUse insert-contact i c = false
-inUse remove-contact i c = someNames i (c .channels)
-inUse replace-contact i c = false
-inUse insert-channel i c = false
-inUse remove-channel i c = someHolds i (c .banks)
-inUse replace-channel i c = false
-inUse insert-bank i c = false
-inUse remove-bank i c = false
-inUse rename-bank i c = false
-inUse insert-entry i c = false
-inUse remove-entry i c = false
-inUse set-title i c = false
+inUse InsertContact i c = false
+inUse RemoveContact i c = someNames i (c .channels)
+inUse ReplaceContact i c = false
+inUse InsertChannel i c = false
+inUse RemoveChannel i c = someHolds i (c .banks)
+inUse ReplaceChannel i c = false
+inUse InsertBank i c = false
+inUse RemoveBank i c = false
+inUse RenameBank i c = false
+inUse InsertEntry i c = false
+inUse RemoveEntry i c = false
+inUse SetTitle i c = false

@@ -1,1 +1,65 @@
-// A codeplug as lists of records, its file, and the twelve edits on it: definitions and their laws.
+// A codeplug as lists of records, its file, and the twelve edits on it: definitions and their laws; the kinds of edits.
+ghost use mathlib.Core.Path.{_≡_};
+ghost use Rattle.plug.specs.Edits.{kindOf, recordLength};
+
+// The twelve kinds of edits, in the order of document 01.
+pub enum Kind {
+    InsertContact,
+    RemoveContact,
+    ReplaceContact,
+    InsertChannel,
+    RemoveChannel,
+    ReplaceChannel,
+    InsertBank,
+    RemoveBank,
+    RenameBank,
+    InsertEntry,
+    RemoveEntry,
+    SetTitle,
+}
+
+pub enum KindRead {
+    Known(Kind),
+    NoKind,
+}
+
+// The kind of a number, 1 to 12.
+pub fn kind_of(n: usize) -> KindRead
+    ensures { λ r. ⌜ r ≡ kindOf n ⌝ }
+{
+    match n {
+        1 => KindRead::Known(Kind::InsertContact),
+        2 => KindRead::Known(Kind::RemoveContact),
+        3 => KindRead::Known(Kind::ReplaceContact),
+        4 => KindRead::Known(Kind::InsertChannel),
+        5 => KindRead::Known(Kind::RemoveChannel),
+        6 => KindRead::Known(Kind::ReplaceChannel),
+        7 => KindRead::Known(Kind::InsertBank),
+        8 => KindRead::Known(Kind::RemoveBank),
+        9 => KindRead::Known(Kind::RenameBank),
+        10 => KindRead::Known(Kind::InsertEntry),
+        11 => KindRead::Known(Kind::RemoveEntry),
+        12 => KindRead::Known(Kind::SetTitle),
+        _ => KindRead::NoKind,
+    }
+}
+
+// The length of the record that an edit carries.
+pub fn record_length(k: Kind) -> usize
+    ensures { λ r. ⌜ r ≡ recordLength k ⌝ }
+{
+    match k {
+        Kind::InsertContact => 39,
+        Kind::ReplaceContact => 39,
+        Kind::InsertChannel => 90,
+        Kind::ReplaceChannel => 90,
+        Kind::InsertBank => 32,
+        Kind::RenameBank => 32,
+        Kind::InsertEntry => 2,
+        Kind::SetTitle => 72,
+        Kind::RemoveContact => 0,
+        Kind::RemoveChannel => 0,
+        Kind::RemoveBank => 0,
+        Kind::RemoveEntry => 0,
+    }
+}

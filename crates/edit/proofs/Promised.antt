@@ -1,0 +1,59 @@
+-- Demand 3 for codeplugs: the promise over every list of calls (journal, proofs/Promise.antt) at the editor's own edits. It speaks of every
+-- edit whose record is bytes, which is every one that code can pass.
+use Prim.Native.Nat.{ℕ, _≤_}
+use mathlib.Core.Path.{_≡_}
+use mathlib.Core.Bool.{true, false, not}
+use mathlib.Core.List.{List, _++_}
+use native.Mathlib.Omega.{arith}
+use lib.ListN.{length}
+use borrow.Author.Tests.{leb-true, eqb-true, not-true}
+use Rattle.fields.proofs.Laws.{AllBytes, then-good, unless-good}
+use Rattle.fields.specs.declared.rule.Verdict.{Verdict}
+use Rattle.fields.specs.declared.rule.Verdict.the-variants.{Good, Refused}
+use Rattle.codeplug.specs.File.{fileRule}
+use Rattle.codeplug.proofs.Laws.{file-good}
+use Rattle.journal.specs.Machine.{Call, opened, answers, final, fileOf}
+use Rattle.journal.specs.Book.{book, bookAnswers, bookFile, bookFinal}
+use Rattle.journal.proofs.Promise.{Laws, AllProper, promise}
+use Rattle.plug.specs.declared.KindRead.{KindRead}
+use Rattle.plug.specs.declared.KindRead.the-variants.{Known, NoKind}
+use Rattle.plug.specs.Edits.{kindOf, recordLength}
+use Rattle.edit.specs.Result.{result}
+use Rattle.edit.specs.Setting.{Asked, refusesKind, refuses, appliedKind, applied, editing}
+use Rattle.edit.proofs.ResultLaws.{result-bytes}
+
+-- an edit that is not refused gives an accepted file of bytes that fits the room
+kind-good : (t : KindRead) (a : Asked) (room : ℕ) (f : List ℕ) → AllBytes f → fileRule f ≡ Good → AllBytes (a .bytes)
+    → refusesKind t a room f ≡ Good
+    → (fileRule (appliedKind t a f) ≡ Good) × ((length (appliedKind t a f) ≤ room) × AllBytes (appliedKind t a f))
+unfolding refusesKind appliedKind
+kind-good NoKind a room f bytes good p h = let z : _≡_ {A = ℕ} 0 1 = cc in absurd (omega arith)
+kind-good (Known k) a room f bytes good p h =
+    let wide = then-good _ _ h in
+    let place = then-good _ _ (wide .1) in
+    let count = then-good _ _ (place .1) in
+    let free = then-good _ _ (count .1) in
+    let read = then-good _ _ (free .1) in (
+      read .0,
+      (
+        leb-true _ _ (unless-good _ _ _ (read .1)),
+        result-bytes k (a .first) (a .second) (a .bytes) f bytes p good (eqb-true _ _ (unless-good _ _ _ (wide .0))) (unless-good _ _ _ (place .0))
+            (unless-good _ _ _ (count .0)) (not-true _ (unless-good _ _ _ (free .0))),
+      ),
+    )
+
+pub editing-laws : Laws editing
+unfolding refuses applied
+editing-laws =
+    record {
+      proper = λ a. AllBytes (a .bytes);
+      result-good = λ a room f bytes good p h. kind-good (kindOf (a .kind)) a room f bytes good p h;
+      short = λ f h. file-good f h .short;
+    }
+
+-- over every accepted opening file, every size and content of the spare bytes of both buffers, and every list of edits and undos, refused
+-- ones included: each answer is the book's, and the room holds the book's file
+pub editor-promise : (f spare history : List ℕ) → fileRule f ≡ Good → AllBytes f → (calls : List (Call editing)) → AllProper editing editing-laws calls
+    → (answers editing calls (opened f spare history) ≡ bookAnswers editing calls (book editing f (length (f ++ spare)) (length history)))
+    × (fileOf (final editing calls (opened f spare history)) ≡ bookFile editing (bookFinal editing calls (book editing f (length (f ++ spare)) (length history))))
+editor-promise f spare history good bytes calls proper = promise editing editing-laws f spare history good bytes calls proper

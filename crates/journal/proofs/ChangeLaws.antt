@@ -1,0 +1,83 @@
+-- Laws of the entry of a change: it lies inside both files, its numbers are within their rule, and it takes the change back.
+use Prim.Native.Nat.{ℕ, _+_, _-_, _≤_}
+use mathlib.Core.Path.{_≡_, sym, _∙_}
+use mathlib.Core.List.{List, []}
+use native.Mathlib.Omega.{arith}
+use lib.ListN.{length, drop, length-drop}
+use lib.Seq.{drop-drop}
+use Rattle.fields.proofs.Laws.{AllBytes, bytes-part, length-part}
+use Rattle.moves.specs.Common.{commonStart}
+use Rattle.moves.proofs.Laws.{commonStart-left, commonStart-right, commonStart-self, take-commonStart}
+use Rattle.moves.proofs.Laws.{commonEnd-left, commonEnd-right, drop-commonEnd, between}
+use Rattle.journal.specs.Change.{tailOf, entryOf, revert}
+use Rattle.journal.proofs.Laws.{GoodEntry}
+
+-- ---- the common beginning and the common ending do not overlap
+
+pub tail-left : (old new : List ℕ) → commonStart old new + tailOf old new ≤ length old
+unfolding tailOf
+tail-left old new =
+    let p = commonStart old new in
+    omega (arith, commonStart-left old new, commonEnd-left (drop p old) (drop p new), length-drop p old)
+
+pub tail-right : (old new : List ℕ) → commonStart old new + tailOf old new ≤ length new
+unfolding tailOf
+tail-right old new =
+    let p = commonStart old new in
+    omega (arith, commonStart-right old new, commonEnd-right (drop p old) (drop p new), length-drop p new)
+
+drop-ending : (l : List ℕ) (p s : ℕ) → p + s ≤ length l → drop (length (drop p l) - s) (drop p l) ≡ drop (length l - s) l
+drop-ending l p s h =
+    let e : p + (length l - p - s) ≡ length l - s = omega arith in
+    rw (length-drop p l, drop-drop (length l - p - s) p l, e)
+
+pub tail-same : (old new : List ℕ) → drop (length old - tailOf old new) old ≡ drop (length new - tailOf old new) new
+tail-same old new =
+    let p = commonStart old new in
+    let s = tailOf old new in
+    let e : drop (length (drop p old) - s) (drop p old) ≡ drop (length (drop p new) - s) (drop p new) =
+    unfold tailOf in drop-commonEnd (drop p old) (drop p new)
+    in
+    sym (drop-ending old p s (tail-left old new)) ∙ e ∙ drop-ending new p s (tail-right old new)
+
+-- ---- the change taken back
+
+-- taking the change back gives the old file
+pub revert-entryOf : (old new : List ℕ) → revert (entryOf old new) new ≡ old
+unfolding revert entryOf
+revert-entryOf old new =
+    let p = commonStart old new in
+    let s = tailOf old new in
+    let l = tail-left old new in
+    let r = tail-right old new in
+    let m : length old - (p + s) ≡ length old - s - p = omega arith in
+    let k : p + (length new - (p + s)) ≡ length new - s = omega arith in
+    rw (m, k) (between new old p s (sym (take-commonStart old new)) (sym (tail-same old new)) l)
+
+-- p + k does not pass the new file
+pub entryOf-inside : (old new : List ℕ) → entryOf old new .place + entryOf old new .put ≤ length new
+unfolding entryOf
+entryOf-inside old new = omega (arith, tail-right old new)
+
+-- the m bytes
+pub length-taken : (old new : List ℕ) → length (entryOf old new .old) ≡ length old - (commonStart old new + tailOf old new)
+unfolding entryOf
+length-taken old new =
+    length-part old (commonStart old new) (length old - (commonStart old new + tailOf old new)) (omega (arith, tail-left old new))
+
+-- three numbers of at most 1,048,576, and old bytes that are bytes
+pub good-entryOf : (old new : List ℕ) → length old ≤ 1_048_576 → length new ≤ 1_048_576 → AllBytes old → GoodEntry (entryOf old new)
+good-entryOf old new h g b =
+    record {
+      good-place = unfold entryOf in omega (arith, commonStart-left old new);
+      good-put = unfold entryOf in omega arith;
+      good-taken = rw (length-taken old new) (omega arith);
+      good-bytes = unfold entryOf in bytes-part old (commonStart old new) (length old - (commonStart old new + tailOf old new)) b;
+    }
+
+-- a change of no byte: all is common beginning
+pub entryOf-same : (f : List ℕ) → entryOf f f ≡ record { place = length f; put = 0; old = [] }
+unfolding entryOf
+entryOf-same f =
+    let z : length f - (length f + tailOf f f) ≡ 0 = omega arith in
+    rw (commonStart-self f, z)

@@ -1,0 +1,144 @@
+-- What a call of edit or undo does to the two lent buffers (document 01, "The refusals, by number", "The twelve edits", "The history").
+-- An edit is anything that has a result and refusals of its own: `Setting` says what the edits are and which files are accepted.
+use Prim.Native.Nat.{ℕ, _+_, _-_, max}
+use mathlib.Core.Bool.{Bool, _&&_, cond}
+use mathlib.Core.List.{List, [], _∷_, _++_}
+use lib.ListN.{length, take, drop}
+use lib.Dec.{leb}
+use Rattle.fields.specs.Bytes.{zeros}
+use Rattle.fields.specs.Rule.{_then_, unless}
+use Rattle.fields.specs.declared.rule.Verdict.{Verdict}
+use Rattle.fields.specs.declared.rule.Verdict.the-variants as verdict
+use Rattle.journal.specs.Entry.{Entry, Entries, whole, broken, entriesOf, entrySize, historyBytes}
+use Rattle.journal.specs.History.{recorded}
+use Rattle.journal.specs.Change.{entryOf, revert}
+use Rattle.journal.specs.declared.answer.Answer.{Answer}
+use Rattle.journal.specs.declared.answer.Answer.the-variants.{Done, Refused}
+
+-- which files are accepted; an edit's own refusals of a file, its result's among them, in a room of so many bytes; its result
+pub record Setting : Type 1 where
+  pub Edit : Type 0
+  pub accepts : List ℕ → Verdict
+  pub refuses : Edit → ℕ → List ℕ → Verdict
+  pub applied : Edit → List ℕ → List ℕ
+
+-- two buffers, each with the length of its content
+pub record State : Type 0 where
+  pub room : List ℕ
+  pub length-in-room : ℕ
+  pub history : List ℕ
+  pub length-in-history : ℕ
+
+-- an answer, and the two buffers afterwards
+pub record Outcome : Type 0 where
+  pub answer : Answer
+  pub room : List ℕ
+  pub history : List ℕ
+
+-- a buffer that held `len` bytes of content and now holds s: zeros from the new length up to the old, unchanged past both
+unfoldable pub holding : List ℕ → ℕ → List ℕ → List ℕ
+holding d len s = s ++ (zeros (len - length s) ++ drop (max len (length s)) d)
+
+-- before the first call: the room holds a file and spare bytes, the history has length 0
+unfoldable pub opened : List ℕ → List ℕ → List ℕ → State
+opened f spare h = record { room = f ++ spare; length-in-room = length f; history = h; length-in-history = 0 }
+
+-- ---- what both calls judge first: 30, the codeplug's own refusal, 31
+
+unfoldable pub fileOf : State → List ℕ
+fileOf m = take (m .length-in-room) (m .room)
+
+unfoldable pub entriesIn : State → Entries
+entriesIn m = entriesOf (take (m .length-in-history) (m .history))
+
+unfoldable pub isWhole : Entries → Verdict
+isWhole (whole es) = verdict.Good
+isWhole broken = verdict.Refused 31 0
+
+unfoldable pub stands : Setting → State → Verdict
+stands S m =
+    unless (leb (m .length-in-room) (length (m .room)) && leb (m .length-in-history) (length (m .history))) 30 0
+    then S .accepts (fileOf m)
+    then isWhole (entriesIn m)
+
+-- ---- outcomes
+
+unfoldable pub refused : ℕ → ℕ → State → Outcome
+refused number place m = record { answer = Refused number place; room = m .room; history = m .history }
+
+-- the file s and the entries es
+unfoldable pub done : List ℕ → List Entry → State → Outcome
+done s es m =
+    record {
+      answer = Done (length s) (length (historyBytes es)) (length es);
+      room = holding (m .room) (m .length-in-room) s;
+      history = holding (m .history) (m .length-in-history) (historyBytes es);
+    }
+
+-- ---- an edit: 30, the codeplug's own, 31, the edit's own, 37
+
+unfoldable pub newEntry : (S : Setting) → S .Edit → List ℕ → Entry
+newEntry S e f = entryOf f (S .applied e f)
+
+unfoldable pub editRule : (S : Setting) → S .Edit → State → Verdict
+editRule S e m =
+    stands S m
+    then S .refuses e (length (m .room)) (fileOf m)
+    then unless (leb (entrySize (newEntry S e (fileOf m))) (length (m .history))) 37 0
+
+unfoldable pub editOutcome : (S : Setting) → S .Edit → State → Verdict → Entries → Outcome
+editOutcome S e m (verdict.Refused n p) t = refused n p m
+editOutcome S e m verdict.Good (whole es) =
+    done (S .applied e (fileOf m)) (recorded (length (m .history)) (newEntry S e (fileOf m)) es) m
+editOutcome S e m verdict.Good broken = refused 31 0 m
+
+unfoldable pub editStep : (S : Setting) → S .Edit → State → Outcome
+editStep S e m = editOutcome S e m (editRule S e m) (entriesIn m)
+
+-- ---- an undo: 30, the codeplug's own, 31, 38 where the history is empty, 39 where its top entry does not fit
+
+-- p + k passes the codeplug, the result exceeds the room, or reading it refuses
+unfoldable pub isGood : Verdict → Bool
+isGood verdict.Good = mathlib.Core.Bool.true
+isGood (verdict.Refused n p) = mathlib.Core.Bool.false
+
+unfoldable pub entryFits : Setting → Entry → State → Bool
+entryFits S e m =
+    leb (e .place + e .put) (m .length-in-room)
+    && (leb (length (revert e (fileOf m))) (length (m .room)) && isGood (S .accepts (revert e (fileOf m))))
+
+unfoldable pub undoOutcome : Setting → State → Verdict → Entries → Outcome
+undoOutcome S m (verdict.Refused n p) t = refused n p m
+undoOutcome S m verdict.Good broken = refused 31 0 m
+undoOutcome S m verdict.Good (whole []) = refused 38 0 m
+undoOutcome S m verdict.Good (whole (e ∷ es)) = cond (entryFits S e m) (done (revert e (fileOf m)) es m) (refused 39 0 m)
+
+unfoldable pub undoStep : Setting → State → Outcome
+undoStep S m = undoOutcome S m (stands S m) (entriesIn m)
+
+-- ---- a list of calls on the same two buffers
+
+pub data Call (S : Setting) : Type 0 where
+  edit : S .Edit → Call S
+  undo : Call S
+
+unfoldable pub step : (S : Setting) → Call S → State → Outcome
+step S (edit e) m = editStep S e m
+step S undo m = undoStep S m
+
+-- the lengths that a caller passes to the next call: those answered, or the same after a refusal
+unfoldable pub after : Answer → Outcome → State → State
+after (Done len used n) o m = record { room = o .room; length-in-room = len; history = o .history; length-in-history = used }
+after (Refused n p) o m = record { room = o .room; length-in-room = m .length-in-room; history = o .history; length-in-history = m .length-in-history }
+
+unfoldable pub next : (S : Setting) → Call S → State → State
+next S c m = after (step S c m .answer) (step S c m) m
+
+-- the answers to a list of calls, and the state after it
+unfoldable pub answers : (S : Setting) → List (Call S) → State → List Answer
+answers S [] m = []
+answers S (c ∷ l) m = step S c m .answer ∷ answers S l (next S c m)
+
+unfoldable pub final : (S : Setting) → List (Call S) → State → State
+final S [] m = m
+final S (c ∷ l) m = final S l (next S c m)
