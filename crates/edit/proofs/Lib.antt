@@ -11,3 +11,5 @@ pub mod ContactEdits
 pub mod EditShape
 pub mod ResultLaws
 pub mod Promised
+pub mod InUse
+pub mod PlaceLaws

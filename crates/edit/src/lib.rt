@@ -1,1 +1,3 @@
 // The twelve edits of a codeplug file.
+pub mod in_use; // in_use.rt: whether a contact or channel is in use (35)
+pub mod places; // places.rt: the places and counts of an edit (33, 34)
