@@ -53,12 +53,12 @@ module _ (rule : List ℕ → ℕ → Verdict) (w : ℕ) (P : List ℕ → Type 
 
 -- ---- banks whose entries move
 
-moved-bank-length : (move : ℕ → ℕ) (b : Bank) → BankShaped b → length (bankBytes (moveEntries move b)) ≡ length (bankBytes b)
+pub moved-bank-length : (move : ℕ → ℕ) (b : Bank) → BankShaped b → length (bankBytes (moveEntries move b)) ≡ length (bankBytes b)
 unfolding moveEntries
 moved-bank-length move b h =
     length-bankBytes (moveEntries move b) (h .wide) ∙ rw (length-map (b .entries) move) (sym (length-bankBytes b (h .wide)))
 
-moved-length : (move : ℕ → ℕ) (l : List Bank) → Every BankShaped l
+pub moved-length : (move : ℕ → ℕ) (l : List Bank) → Every BankShaped l
     → length (banksBytes (map (moveEntries move) l)) ≡ length (banksBytes l)
 moved-length move [] h = refl
 moved-length move (b ∷ l) h =

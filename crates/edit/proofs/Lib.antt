@@ -13,3 +13,8 @@ pub mod ResultLaws
 pub mod Promised
 pub mod InUse
 pub mod PlaceLaws
+pub mod InBytes
+pub mod InBytesBanks
+pub mod LengthLaws
+pub mod VerdictLaws
+pub mod RefusalLaws

@@ -19,14 +19,14 @@ use Rattle.plug.specs.declared.KindRead.{KindRead}
 use Rattle.plug.specs.declared.KindRead.the-variants.{Known, NoKind}
 use Rattle.plug.specs.Edits.{kindOf, recordLength}
 use Rattle.edit.specs.Result.{result}
-use Rattle.edit.specs.Setting.{Asked, refusesKind, refuses, appliedKind, applied, editing}
+use Rattle.edit.specs.Setting.{Asked, refusesKnown, refusesKind, refuses, appliedKind, applied, editing}
 use Rattle.edit.proofs.ResultLaws.{result-bytes}
 
 -- an edit that is not refused gives an accepted file of bytes that fits the room
 kind-good : (t : KindRead) (a : Asked) (room : ℕ) (f : List ℕ) → AllBytes f → fileRule f ≡ Good → AllBytes (a .bytes)
     → refusesKind t a room f ≡ Good
     → (fileRule (appliedKind t a f) ≡ Good) × ((length (appliedKind t a f) ≤ room) × AllBytes (appliedKind t a f))
-unfolding refusesKind appliedKind
+unfolding refusesKnown refusesKind appliedKind
 kind-good NoKind a room f bytes good p h = let z : _≡_ {A = ℕ} 0 1 = cc in absurd (omega arith)
 kind-good (Known k) a room f bytes good p h =
     let wide = then-good _ _ h in

@@ -1,6 +1,6 @@
 -- The file after an edit, and what reading it gives, told without building it. No promise to a caller rests on `resultRule`: that it is
 -- `fileRule` of the result is proved (proofs/ResultLaws.antt).
-use Prim.Native.Nat.{ℕ, _+_, _*_}
+use Prim.Native.Nat.{ℕ, _+_, _*_, _-_}
 use mathlib.Core.Bool.{Bool, true, false, _&&_, _||_, not}
 use mathlib.Core.List.{List}
 use lib.ListN.{length, getD}
@@ -11,7 +11,7 @@ use Rattle.fields.specs.Rule.{_then_, unless, each}
 use Rattle.fields.specs.declared.rule.Verdict.{Verdict}
 use Rattle.fields.specs.declared.rule.Verdict.the-variants.{Good}
 use Rattle.layout.specs.Places.{channelCount, contactPlace, channelPlace}
-use Rattle.layout.specs.Banks.{bankPlace}
+use Rattle.layout.specs.Banks.{entryCount, bankPlace}
 use Rattle.contact.specs.Contact.{contactRule}
 use Rattle.channel.specs.Channel.{channelRule, namedContact}
 use Rattle.codeplug.specs.File.{indexOk}
@@ -54,3 +54,18 @@ resultRule InsertEntry i j r f =
     then unless (ltb (little r) (channelCount f)) 11 (bankPlace f i + 34 + j * 2)
 resultRule RemoveEntry i j r f = Good
 resultRule SetTitle i j r f = unless (textOk (part r 0 32)) 5 10 then unless (textOk (part r 32 32)) 5 42
+
+-- the length of that file (proofs/LengthLaws.antt); a bank goes with its offset
+unfoldable pub resultLength : Kind → ℕ → List ℕ → ℕ
+resultLength InsertContact i f = length f + 39
+resultLength RemoveContact i f = length f - 39
+resultLength ReplaceContact i f = length f
+resultLength InsertChannel i f = length f + 90
+resultLength RemoveChannel i f = length f - 90
+resultLength ReplaceChannel i f = length f
+resultLength InsertBank i f = length f + 38
+resultLength RemoveBank i f = length f - (38 + entryCount f (bankPlace f i) * 2)
+resultLength RenameBank i f = length f
+resultLength InsertEntry i f = length f + 2
+resultLength RemoveEntry i f = length f - 2
+resultLength SetTitle i f = length f

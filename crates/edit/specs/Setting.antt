@@ -24,15 +24,19 @@ pub record Asked : Type 0 where
   pub second : ℕ
   pub bytes : List ℕ
 
+-- what refuses an edit of a known kind
+unfoldable pub refusesKnown : Kind → ℕ → ℕ → List ℕ → ℕ → List ℕ → Verdict
+refusesKnown k i j r room f =
+    unless (eqb (length r) (recordLength k)) 32 0
+    then unless (placeOk k i j (plugOf f)) 33 0
+    then unless (countOk k i (plugOf f)) 34 0
+    then unless (not (inUse k i (plugOf f))) 35 0
+    then fileRule (result k i j r f)
+    then unless (leb (length (result k i j r f)) room) 36 0
+
 unfoldable pub refusesKind : KindRead → Asked → ℕ → List ℕ → Verdict
 refusesKind NoKind a room f = Refused 32 0
-refusesKind (Known k) a room f =
-    unless (eqb (length (a .bytes)) (recordLength k)) 32 0
-    then unless (placeOk k (a .first) (a .second) (plugOf f)) 33 0
-    then unless (countOk k (a .first) (plugOf f)) 34 0
-    then unless (not (inUse k (a .first) (plugOf f))) 35 0
-    then fileRule (result k (a .first) (a .second) (a .bytes) f)
-    then unless (leb (length (result k (a .first) (a .second) (a .bytes) f)) room) 36 0
+refusesKind (Known k) a room f = refusesKnown k (a .first) (a .second) (a .bytes) room f
 
 unfoldable pub refuses : Asked → ℕ → List ℕ → Verdict
 refuses a room f = refusesKind (kindOf (a .kind)) a room f

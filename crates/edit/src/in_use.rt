@@ -18,7 +18,7 @@ ghost use Rattle.codeplug.specs.File.{fileRule};
 ghost use Rattle.plug.specs.Plug.{plugOf, indexesAt};
 ghost use Rattle.plug.specs.Edits.{isIndex, someNames, holds, someHolds, inUse};
 
-fn is_index(c: ContactIndex, i: usize) -> bool
+pub(crate) fn is_index(c: ContactIndex, i: usize) -> bool
     ensures { λ r. ⌜ r ≡ isIndex i c ⌝ }
 {
     match c {

@@ -2,6 +2,7 @@
 pub mod Laws
 pub mod ScanLaws
 pub mod ChangeLaws
+pub mod RecordLaws
 pub mod BookLaws
 pub mod StepLaws
 pub mod Promise

@@ -5,4 +5,5 @@ pub mod History
 pub mod Scan
 pub mod Change
 pub mod Machine
+pub mod Span
 pub mod Book

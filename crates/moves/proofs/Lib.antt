@@ -1,2 +1,3 @@
 -- Laws of the definitions, for the proofs here and for callers.
 pub mod Laws
+pub mod SeamLaws

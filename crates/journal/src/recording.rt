@@ -1,0 +1,87 @@
+// An edit's entry put in front of the history.
+use crate::number::number_length;
+use crate::number::put_number;
+use crate::scan::Run;
+use crate::scan::fitting;
+use fields::put::put;
+use moves::block::clear;
+use moves::block::move_up;
+ghost use mathlib.Core.Path.{_≡_};
+ghost use Prim.Native.Nat.{_+_, _-_, _≤_};
+ghost use mathlib.Core.List.{_++_};
+ghost use lib.ListN.{length, take};
+ghost use Rattle.fields.specs.Bytes.{over};
+ghost use Rattle.journal.specs.Number.{numberBytes};
+ghost use Rattle.journal.specs.Entry.{entriesOf, entryBytes, historyBytes};
+ghost use Rattle.journal.specs.History.{counted};
+ghost use Rattle.journal.specs.declared.scan.HistoryRead.the-variants.{Broken};
+ghost use Rattle.journal.specs.Machine.{holding};
+ghost use Rattle.journal.specs.Span.{Sound, spanSize, entryFrom, recordedIn};
+
+// A change: k new bytes stand at p in place of m old ones.
+pub struct Span {
+    pub place: usize,
+    pub put: usize,
+    pub taken: usize,
+}
+
+// How many bytes a change's entry takes.
+pub fn entry_size(s: Span) -> usize
+    requires { ⌜ Sound s ⌝ }
+    ensures { λ r. ⌜ r ≡ spanSize s ⌝ }
+{
+    number_length(s.place) + number_length(s.put) + number_length(s.taken) + s.taken
+}
+
+// Writes an entry at the front of a buffer.
+fn write_entry(d: &mut [u8], s: Span, old: &[u8])
+    requires { ⌜ (Sound s × (length (now old) ≡ s .taken)) × (spanSize s ≤ length (now d)) ⌝ }
+    ensures { λ _. ⌜ now (d .exit) ≡ over (now (d .entry)) 0 (entryBytes (entryFrom s (now (old .entry)))) ⌝ }
+{
+    let a = number_length(s.place);
+    let b = a + number_length(s.put);
+    let c = b + number_length(s.taken);
+    put_number(d, 0, s.place);
+    put_number(d, a, s.put);
+    put_number(d, b, s.taken);
+    put(d, c, old);
+}
+
+// How far a passes b.
+fn excess(a: usize, b: usize) -> usize
+    ensures { λ r. ⌜ r ≡ a - b ⌝ }
+{
+    if a < b {
+        return 0;
+    }
+    a - b
+}
+
+// Puts an entry in front of the first n bytes of a history; what lies between the new and the old length is zeroed.
+fn put_first(d: &mut [u8], used: usize, n: usize, s: Span, old: &[u8])
+    requires { ⌜ ((Sound s × (length (now old) ≡ s .taken)) × (spanSize s + n ≤ length (now d))) × (used ≤ length (now d)) ⌝ }
+    ensures { λ _. ⌜ now (d .exit) ≡ holding (now (d .entry)) used (entryBytes (entryFrom s (now (old .entry))) ++ take n (now (d .entry))) ⌝ }
+{
+    let size = entry_size(s);
+    let bytes = size + n;
+    let past = excess(used, bytes);
+    move_up(d, 0, n, size);
+    write_entry(d, s, old);
+    clear(d, bytes, past);
+}
+
+// Puts an entry first and keeps the longest run of earlier ones that still fits; what lies between the new and the old length is zeroed.
+pub fn record_entry(d: &mut [u8], used: usize, s: Span, old: &[u8]) -> Run
+    requires { ⌜ ((Sound s × (length (now old) ≡ s .taken)) × (spanSize s ≤ length (now d))) × ((used ≤ length (now d)) × (counted (entriesOf (take used (now d))) ≡ Broken → ⊥)) ⌝ }
+    ensures history { λ _. ⌜ now (d .exit) ≡ holding (now (d .entry)) used (historyBytes (recordedIn (length (now (d .entry))) (entryFrom s (now (old .entry))) (entriesOf (take used (now (d .entry)))))) ⌝ }
+    ensures left { λ r. ⌜ r ≡ record { bytes = length (historyBytes (recordedIn (length (now (d .entry))) (entryFrom s (now (old .entry))) (entriesOf (take used (now (d .entry)))))); entries = length (recordedIn (length (now (d .entry))) (entryFrom s (now (old .entry))) (entriesOf (take used (now (d .entry))))) } ⌝ }
+{
+    let size = entry_size(s);
+    let room = d.len() - size;
+    let kept = fitting(&d[..used], room);
+    put_first(d, used, kept.bytes, s, old);
+    Run {
+        bytes: size + kept.bytes,
+        entries: kept.entries + 1,
+    }
+}

@@ -1,0 +1,3 @@
+-- Laws of renumbering.
+pub mod Laws
+pub mod LastLaws

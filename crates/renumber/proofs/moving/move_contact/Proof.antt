@@ -1,0 +1,56 @@
+-- The index inside the channel's record, by its mode.
+use Rattle.renumber.proofs.Laws.{contact-dmr, contact-m17, contact-fm}
+use mathlib.Core.Path.{_∙_}
+use native.Mathlib.Omega.{arith}
+use borrow.Author.Needs.{needs}
+use Rattle.renumber.proofs.moving.move_contact.Statement.{statement}
+use Rattle.renumber.proofs.moving.move_contact.Tie as tie
+
+slice-read-mode : tie.Need-slice-read-mode
+slice-read-mode c = search needs
+
+add-move-index : tie.Need-add-move-index
+add-move-index c = search needs
+
+move-index-requires : tie.Need-move-index-requires
+move-index-requires c κs = search needs
+
+same-length : tie.Need-same-length
+same-length c = search needs
+
+returns : tie.Need-returns
+returns c =
+    let m = c .before .before in
+    m .move-index .ensures ∙ contact-dmr _ _ _ (m .before .before .if1 .taken) (omega arith)
+
+add-move-index-2 : tie.Need-add-move-index-2
+add-move-index-2 c = search needs
+
+move-index-requires-2 : tie.Need-move-index-requires-2
+move-index-requires-2 c κs = search needs
+
+same-length-2 : tie.Need-same-length-2
+same-length-2 c = search needs
+
+returns-2 : tie.Need-returns-2
+returns-2 c =
+    let m = c .before .before in
+    m .move-index2 .ensures ∙ contact-m17 _ _ _ (m .before .before .if2 .taken) (omega arith)
+
+returns-3 : tie.Need-returns-3
+returns-3 c = contact-fm _ _ _ (c .before .if1 .left) (c .if2 .left) (omega arith)
+
+pub move-contact-spec : {M : Type 1} → statement M
+move-contact-spec =
+    tie.close
+    (tie.spec
+    slice-read-mode
+    add-move-index
+    move-index-requires
+    same-length
+    returns
+    add-move-index-2
+    move-index-requires-2
+    same-length-2
+    returns-2
+    returns-3)
