@@ -2,3 +2,4 @@
 pub mod block; // block.rt: a block moved up or down, zeros
 pub mod common; // common.rt: the common beginning and ending
 pub mod splicing; // splicing.rt: other bytes in place of some of a content
+pub mod turning; // turning.rt: bytes reversed, turned and swapped

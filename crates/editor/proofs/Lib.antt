@@ -1,0 +1,4 @@
+-- Laws of the calls.
+pub mod ExchangeLaws
+pub mod StandLaws
+pub mod UndoLaws

@@ -1,0 +1,13 @@
+-- What is lent to a call, and what it leaves, as the machine of the history has them.
+use Prim.Native.Nat.{ℕ}
+use mathlib.Core.List.{List}
+use Rattle.journal.specs.Machine.{State, Outcome}
+use Rattle.journal.specs.declared.answer.Answer.{Answer}
+
+-- two buffers, each with the length of its content
+abbrev pub lent : List ℕ → ℕ → List ℕ → ℕ → State
+lent room len history used = record { room = room; length-in-room = len; history = history; length-in-history = used }
+
+-- an answer, and the two buffers afterwards
+abbrev pub left : Answer → List ℕ → List ℕ → Outcome
+left answer room history = record { answer = answer; room = room; history = history }

@@ -1,0 +1,3 @@
+-- The calls on two lent buffers.
+pub mod Calls
+pub mod Undo

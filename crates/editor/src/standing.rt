@@ -1,0 +1,37 @@
+// What both calls judge first: 30, the codeplug's own refusal, 31.
+use codeplug::judge::verdict_on;
+use fields::rule::Verdict;
+use fields::rule::first;
+use journal::scan::HistoryRead;
+use journal::scan::entries_in;
+ghost use mathlib.Core.Path.{_≡_};
+ghost use Rattle.journal.specs.Entry.{entriesOf};
+ghost use Rattle.journal.specs.Machine.{isWhole, stands};
+ghost use Rattle.edit.specs.Setting.{editing};
+ghost use Rattle.editor.specs.Calls.{lent};
+
+// A length passes its buffer.
+pub const BAD_LENGTH: u8 = 30;
+// The history is not whole entries.
+pub const BAD_HISTORY: u8 = 31;
+
+fn whole_entries(h: &[u8]) -> Verdict
+    ensures { λ r. ⌜ r ≡ isWhole (entriesOf (now (h .entry))) ⌝ }
+{
+    match entries_in(h) {
+        HistoryRead::Entries(_) => Verdict::Good,
+        HistoryRead::Broken => Verdict::Refused(BAD_HISTORY, 0),
+    }
+}
+
+pub fn standing(room: &[u8], len: usize, history: &[u8], used: usize) -> Verdict
+    ensures { λ r. ⌜ r ≡ stands editing (lent (now (room .entry)) len (now (history .entry)) used) ⌝ }
+{
+    if room.len() < len {
+        return Verdict::Refused(BAD_LENGTH, 0);
+    }
+    if history.len() < used {
+        return Verdict::Refused(BAD_LENGTH, 0);
+    }
+    first(verdict_on(&room[..len]), whole_entries(&history[..used]))
+}
