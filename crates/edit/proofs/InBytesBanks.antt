@@ -11,7 +11,7 @@ use borrow.Author.Tests.{leb-true, ltb-true}
 use Rattle.bits.proofs.Laws.{and-right}
 use Rattle.fields.specs.Bytes.{over, little, littleBytes, zeros}
 use Rattle.fields.specs.declared.rule.Verdict.the-variants.{Good}
-use Rattle.fields.proofs.Laws.{AllBytes, length-littleBytes, littleBytes-little}
+use Rattle.fields.proofs.Laws.{AllBytes, length-littleBytes}
 use Rattle.layout.specs.Places.{bankCount, offsetPlace, banksPlace}
 use Rattle.layout.specs.Banks.{entryCount, bankPlace}
 use Rattle.moves.specs.Splice.{cut}
@@ -278,12 +278,12 @@ module _ (c : Plug) (h : Shaped c) (i : ℕ) (g : i < length (c .banks)) where
       let q : b + 34 + j * 2 ≡ length a + (length k₀ + length e) = omega arith in
       cut-over d a k₀ k e s₀ s (z ++ banksBytes behind) (b + 32) (b + 34 + j * 2) m f₁ p (h₀ ∙ sym hk) q hm ∙ simp append-assoc
 
-  insert-entry-is : (j : ℕ) (r : List ℕ) → j ≤ length (own .entries) → length r ≡ 2 → AllBytes r
+  insert-entry-is : (j : ℕ) (r : List ℕ) → j ≤ length (own .entries) → length r ≡ 2 → littleBytes (length r) (little r) ≡ r
       → plugBytes (withBanks (changeAt i (withEntries (insertAt j (little r))) (c .banks)) c)
       ≡ over (cut (offsetsFollow (growthOf (More 2)) (i + 1) (plugBytes c)) (bankPlace (plugBytes c) i + 34 + j * 2) 0 r)
       (bankPlace (plugBytes c) i + 32) (littleBytes 2 (entryCount (plugBytes c) (bankPlace (plugBytes c) i) + 1))
   unfolding withEntries growthOf insertAt pairs
-  insert-entry-is j r g₁ w bytes =
+  insert-entry-is j r g₁ w same-bytes =
       let n = length (c .banks) in
       let l = own .entries in
       let at = length (banksBytes before) + length (bankBytes own) in
@@ -292,7 +292,7 @@ module _ (c : Plug) (h : Shaped c) (i : ℕ) (g : i < length (c .banks)) where
       let e : at + 2 ≡ length (banksBytes before) + length (bankBytes new) =
       omega (arith, length-bankBytes new (own-shaped .wide), length-bankBytes own (own-shaped .wide))
       in
-      let lr : littleBytes 2 (little r) ≡ r = rw w at (littleBytes-little r bytes) in
+      let lr : littleBytes 2 (little r) ≡ r = rw w at same-bytes in
       let halves : pairs l ≡ pairs (take j l) ++ ([] ++ pairs (drop j l)) =
       ap pairs (sym (take-append-drop j l)) ∙ pairs-append (take j l) (drop j l)
       in
@@ -466,7 +466,8 @@ module _ (i j : ℕ) (r f : List ℕ) (bytes : AllBytes f) (good : fileRule f �
       let c = plugOf f in
       rename-is c shape i (below i (length (c .banks)) _ place) r wide ∙ ap (λ (t : List ℕ). over t (bankPlace t i) r) same
 
-  pub insert-entry-in-bytes : AllBytes r → length r ≡ recordLength InsertEntry → placeOk InsertEntry i j (plugOf f) ≡ true
+  pub insert-entry-in-bytes : littleBytes (length r) (little r) ≡ r → length r ≡ recordLength InsertEntry
+      → placeOk InsertEntry i j (plugOf f) ≡ true
       → result InsertEntry i j r f
       ≡ over (cut (offsetsFollow (growthOf (More 2)) (i + 1) f) (bankPlace f i + 34 + j * 2) 0 r) (bankPlace f i + 32)
       (littleBytes 2 (entryCount f (bankPlace f i) + 1))

@@ -18,3 +18,4 @@ pub mod InBytesBanks
 pub mod LengthLaws
 pub mod VerdictLaws
 pub mod RefusalLaws
+pub mod PlanLaws

@@ -14,7 +14,7 @@ use Rattle.codeplug.specs.File.{fileRule}
 use Rattle.codeplug.proofs.Laws.{file-good}
 use Rattle.journal.specs.Machine.{Call, opened, answers, final, fileOf}
 use Rattle.journal.specs.Book.{book, bookAnswers, bookFile, bookFinal}
-use Rattle.journal.proofs.Promise.{Laws, AllProper, promise}
+use Rattle.journal.proofs.Promise.{Laws, EveryEdit, promise, stateAfter, bookAfter, follows-after}
 use Rattle.plug.specs.declared.KindRead.{KindRead}
 use Rattle.plug.specs.declared.KindRead.the-variants.{Known, NoKind}
 use Rattle.plug.specs.Edits.{kindOf, recordLength}
@@ -42,18 +42,21 @@ kind-good (Known k) a room f bytes good p h =
       ),
     )
 
-pub editing-laws : Laws editing
+-- an edit whose record is bytes, which is every one that code can pass
+abbrev pub OfBytes : Asked → Type 0
+OfBytes a = AllBytes (a .bytes)
+
+pub editing-laws : Laws editing OfBytes
 unfolding refuses applied
 editing-laws =
     record {
-      proper = λ a. AllBytes (a .bytes);
       result-good = λ a room f bytes good p h. kind-good (kindOf (a .kind)) a room f bytes good p h;
       short = λ f h. file-good f h .short;
     }
 
 -- over every accepted opening file, every size and content of the spare bytes of both buffers, and every list of edits and undos, refused
 -- ones included: each answer is the book's, and the room holds the book's file
-pub editor-promise : (f spare history : List ℕ) → fileRule f ≡ Good → AllBytes f → (calls : List (Call editing)) → AllProper editing editing-laws calls
+pub editor-promise : (f spare history : List ℕ) → fileRule f ≡ Good → AllBytes f → (calls : List (Call editing)) → EveryEdit editing OfBytes calls
     → (answers editing calls (opened f spare history) ≡ bookAnswers editing calls (book editing f (length (f ++ spare)) (length history)))
     × (fileOf (final editing calls (opened f spare history)) ≡ bookFile editing (bookFinal editing calls (book editing f (length (f ++ spare)) (length history))))
-editor-promise f spare history good bytes calls proper = promise editing editing-laws f spare history good bytes calls proper
+editor-promise f spare history good bytes calls proper = promise editing OfBytes editing-laws f spare history good bytes calls proper

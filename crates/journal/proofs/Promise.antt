@@ -23,25 +23,24 @@ use Rattle.journal.proofs.StepLaws.{Follows, Step, file-fine, edit-step
 
 -- ---- what the promise needs of a setting
 
--- which edits it speaks of (their records are bytes); an edit that is not refused gives an accepted file of bytes that fits the room;
--- an accepted file has at most 1,048,576 bytes
-pub record Laws (S : Setting) : Type 1 where
-  pub proper : S .Edit → Type 0
-  pub result-good : (e : S .Edit) (room : ℕ) (f : List ℕ) → AllBytes f → S .accepts f ≡ verdict.Good → proper e
+-- an edit that is not refused gives an accepted file of bytes that fits the room; an accepted file has at most 1,048,576 bytes. P says
+-- which edits the promise speaks of
+pub record Laws (S : Setting) (P : S .Edit → Type 0) : Type 0 where
+  pub result-good : (e : S .Edit) (room : ℕ) (f : List ℕ) → AllBytes f → S .accepts f ≡ verdict.Good → P e
       → S .refuses e room f ≡ verdict.Good
       → (S .accepts (S .applied e f) ≡ verdict.Good) × ((length (S .applied e f) ≤ room) × AllBytes (S .applied e f))
   pub short : (f : List ℕ) → S .accepts f ≡ verdict.Good → length f ≤ 1_048_576
 
 -- every edit of a list of calls is one of those
-abbrev pub AllProper : (S : Setting) → Laws S → List (Call S) → Type 0
-AllProper S L [] = Unit
-AllProper S L (edit e ∷ l) = L .proper e × AllProper S L l
-AllProper S L (undo ∷ l) = AllProper S L l
+abbrev pub EveryEdit : (S : Setting) → (S .Edit → Type 0) → List (Call S) → Type 0
+EveryEdit S P [] = Unit
+EveryEdit S P (edit e ∷ l) = P e × EveryEdit S P l
+EveryEdit S P (undo ∷ l) = EveryEdit S P l
 
 -- ---- call by call
 
-edit-follows : (S : Setting) (L : Laws S) (e : S .Edit) (m : State) (b : Book S) → L .proper e → Follows S m b → Step S (edit e) m b
-edit-follows S L e m b p h =
+edit-follows : (S : Setting) (P : S .Edit → Type 0) (L : Laws S P) (e : S .Edit) (m : State) (b : Book S) → P e → Follows S m b → Step S (edit e) m b
+edit-follows S P L e m b p h =
     let now = file-fine S m b h in
     edit-step S (L .short) m b h e
     (λ g.
@@ -62,15 +61,15 @@ agree-more S c calls m b s a =
       follows-on = a .follows-on;
     }
 
-agree : (S : Setting) (L : Laws S) (calls : List (Call S)) → AllProper S L calls → (m : State) (b : Book S) → Follows S m b → Agree S calls m b
+agree : (S : Setting) (P : S .Edit → Type 0) (L : Laws S P) (calls : List (Call S)) → EveryEdit S P calls → (m : State) (b : Book S) → Follows S m b → Agree S calls m b
 unfolding answers bookAnswers final bookFinal
-agree S L [] p m b h = record { same-answers = refl; follows-on = h }
-agree S L (edit e ∷ calls) p m b h =
-    let s = edit-follows S L e m b (p .0) h in
-    agree-more S (edit e) calls m b s (agree S L calls (p .1) (next S (edit e) m) (bookNext S (edit e) b) (s .follows))
-agree S L (undo ∷ calls) p m b h =
+agree S P L [] p m b h = record { same-answers = refl; follows-on = h }
+agree S P L (edit e ∷ calls) p m b h =
+    let s = edit-follows S P L e m b (p .0) h in
+    agree-more S (edit e) calls m b s (agree S P L calls (p .1) (next S (edit e) m) (bookNext S (edit e) b) (s .follows))
+agree S P L (undo ∷ calls) p m b h =
     let s = undo-step S (L .short) m b h in
-    agree-more S undo calls m b s (agree S L calls p (next S undo m) (bookNext S undo b) (s .follows))
+    agree-more S undo calls m b s (agree S P L calls p (next S undo m) (bookNext S undo b) (s .follows))
 
 -- at the start: the history's content is empty
 follows-opened : (S : Setting) (f spare h : List ℕ) → S .accepts f ≡ verdict.Good → AllBytes f
@@ -92,12 +91,12 @@ follows-opened S f spare h good bytes =
 -- ---- the promise
 
 -- the file f opened in a room with any spare bytes, and any history buffer
-pub promise : (S : Setting) (L : Laws S) (f spare h : List ℕ) → S .accepts f ≡ verdict.Good → AllBytes f
-    → (calls : List (Call S)) → AllProper S L calls
+pub promise : (S : Setting) (P : S .Edit → Type 0) (L : Laws S P) (f spare h : List ℕ) → S .accepts f ≡ verdict.Good → AllBytes f
+    → (calls : List (Call S)) → EveryEdit S P calls
     → (answers S calls (opened f spare h) ≡ bookAnswers S calls (book S f (length (f ++ spare)) (length h)))
     × (fileOf (final S calls (opened f spare h)) ≡ bookFile S (bookFinal S calls (book S f (length (f ++ spare)) (length h))))
-promise S L f spare h good bytes calls p =
-    let a = agree S L calls p (opened f spare h) (book S f (length (f ++ spare)) (length h)) (follows-opened S f spare h good bytes) in
+promise S P L f spare h good bytes calls p =
+    let a = agree S P L calls p (opened f spare h) (book S f (length (f ++ spare)) (length h)) (follows-opened S f spare h good bytes) in
     (a .same-answers, a .follows-on .file-is)
 
 -- ---- what follows, after any list of calls
@@ -164,19 +163,19 @@ unfolding _then_
 then-refusals verdict.Good t number n p e = inr (unless-refused t number n p e)
 then-refusals (verdict.Refused k q) t number n p e = inl e
 
-module _ (S : Setting) (L : Laws S) (f spare h : List ℕ) (good : S .accepts f ≡ verdict.Good) (bytes : AllBytes f)
-    (calls : List (Call S)) (proper : AllProper S L calls) where
+module _ (S : Setting) (P : S .Edit → Type 0) (L : Laws S P) (f spare h : List ℕ) (good : S .accepts f ≡ verdict.Good) (bytes : AllBytes f)
+    (calls : List (Call S)) (proper : EveryEdit S P calls) where
   -- the room holds the book's file, and the history the kept entries, newest first
   pub follows-after : Follows S (stateAfter S f spare h calls) (bookAfter S f spare h calls)
   follows-after =
-      agree S L calls proper (opened f spare h) (book S f (length (f ++ spare)) (length h)) (follows-opened S f spare h good bytes) .follows-on
+      agree S P L calls proper (opened f spare h) (book S f (length (f ++ spare)) (length h)) (follows-opened S f spare h good bytes) .follows-on
 
   -- 30, the file's own refusal and 31 do not arise
   pub stands-after : stands S (stateAfter S f spare h calls) ≡ verdict.Good
   stands-after = stands-good S (L .short) (stateAfter S f spare h calls) (bookAfter S f spare h calls) follows-after
 
   -- an edit is refused by its own refusals of the file, and then by 37 at 0 where its entry alone exceeds the history buffer: no other
-  pub edit-refusals : (e : S .Edit) → L .proper e → (n p : ℕ) → step S (edit e) (stateAfter S f spare h calls) .answer ≡ Refused n p
+  pub edit-refusals : (e : S .Edit) → P e → (n p : ℕ) → step S (edit e) (stateAfter S f spare h calls) .answer ≡ Refused n p
       → (S .refuses e (length (f ++ spare)) (fileOf (stateAfter S f spare h calls)) ≡ verdict.Refused n p)
       ⊎ (((n ≡ 37) × (p ≡ 0))
       × (length h
@@ -187,7 +186,7 @@ module _ (S : Setting) (L : Laws S) (f spare h : List ℕ) (good : S .accepts f 
       let b = bookAfter S f spare h calls in
       let k = keeps-final S calls (book S f (length (f ++ spare)) (length h)) in
       let file : fileOf m ≡ bookFile S b = follows-after .file-is in
-      let r = answer-refused S (bookRule S e b) (bookNext S (edit e) b) n p (sym (edit-follows S L e m b ok follows-after .same-answer) ∙ a) in
+      let r = answer-refused S (bookRule S e b) (bookNext S (edit e) b) n p (sym (edit-follows S P L e m b ok follows-after .same-answer) ∙ a) in
       let size = entrySize (entryOf (bookFile S b) (S .applied e (bookFile S b))) in
       ⊎-elim
       (λ own. inl (rw file (ap (λ (x : ℕ). S .refuses e x (bookFile S b)) (sym (k .same-room)) ∙ own)))
