@@ -12,13 +12,20 @@ use Rattle.fields.specs.declared.rule.Verdict.{Verdict}
 use Rattle.fields.specs.declared.rule.Verdict.the-variants.{Good, Refused}
 use Rattle.codeplug.specs.File.{fileRule}
 use Rattle.codeplug.proofs.Laws.{file-good}
-use Rattle.journal.specs.Machine.{Call, opened, answers, final, fileOf}
-use Rattle.journal.specs.Book.{book, bookAnswers, bookFile, bookFinal}
-use Rattle.journal.proofs.Promise.{Laws, EveryEdit, promise, stateAfter, bookAfter, follows-after}
+use Rattle.journal.specs.Setting.{Call, undo}
+use Rattle.journal.specs.Machine.{State, opened, answers, final, fileOf, entriesIn, stands, step, next}
+use Rattle.journal.specs.Book.{Book, book, bookAnswers, bookFile, bookFinal, fileAfter, anyKept, withoutLast}
+use Rattle.journal.proofs.Promise.{Laws, EveryEdit, promise, stateAfter, bookAfter, entries-after, stands-after, undo-refusals, undo-refused, undo-takes-back}
+use Rattle.journal.proofs.StepLaws.{newestFirst}
+use Rattle.journal.specs.Entry.{whole}
+use Rattle.journal.specs.declared.answer.Answer.the-variants as answer
 use Rattle.plug.specs.declared.KindRead.{KindRead}
 use Rattle.plug.specs.declared.KindRead.the-variants.{Known, NoKind}
 use Rattle.plug.specs.Edits.{kindOf, recordLength}
+use Rattle.plug.specs.Plug.{plugOf, plugBytes}
+use Rattle.plug.proofs.FileOf.{file-of-plug}
 use Rattle.edit.specs.Result.{result}
+use Rattle.edit.proofs.Accepted.{laid}
 use Rattle.edit.specs.Setting.{Asked, refusesKnown, refusesKind, refuses, appliedKind, applied, editing}
 use Rattle.edit.proofs.ResultLaws.{result-bytes}
 
@@ -54,9 +61,46 @@ editing-laws =
       short = λ f h. file-good f h .short;
     }
 
--- over every accepted opening file, every size and content of the spare bytes of both buffers, and every list of edits and undos, refused
--- ones included: each answer is the book's, and the room holds the book's file
+-- ---- the promise
+
+-- Over every accepted opening file, every size and content of the spare bytes of both buffers, and every list of edits and undos, refused
+-- ones included: each answer is the book's, and the room holds the book's file. It says that the two calls keep faith with the book; that
+-- an edit yields the file its rule describes is what the calls' contracts and `applied` say, which both sides share.
 pub editor-promise : (f spare history : List ℕ) → fileRule f ≡ Good → AllBytes f → (calls : List (Call editing)) → EveryEdit editing OfBytes calls
     → (answers editing calls (opened f spare history) ≡ bookAnswers editing calls (book editing f (length (f ++ spare)) (length history)))
     × (fileOf (final editing calls (opened f spare history)) ≡ bookFile editing (bookFinal editing calls (book editing f (length (f ++ spare)) (length history))))
 editor-promise f spare history good bytes calls proper = promise editing OfBytes editing-laws f spare history good bytes calls proper
+
+-- ---- what follows, after any list of calls
+
+module _ (f spare history : List ℕ) (good : fileRule f ≡ Good) (bytes : AllBytes f) (calls : List (Call editing)) (proper : EveryEdit editing OfBytes calls) where
+  abbrev now : State
+  now = stateAfter editing f spare history calls
+
+  abbrev booked : Book editing
+  booked = bookAfter editing f spare history calls
+
+  -- 30, the file's own refusal and 31 do not arise
+  pub editor-stands : stands editing now ≡ Good
+  editor-stands = stands-after editing OfBytes editing-laws f spare history good bytes calls proper
+
+  -- the history's bytes are exactly the kept entries, newest first
+  pub editor-entries : entriesIn now ≡ whole (newestFirst editing booked)
+  editor-entries = entries-after editing OfBytes editing-laws f spare history good bytes calls proper
+
+  -- an undo is refused exactly where no standing edit's entry is kept, by 38 at 0; 39 does not arise
+  pub editor-undo-refusals : (n p : ℕ) → step editing undo now .answer ≡ answer.Refused n p
+      → ((n ≡ 38) × (p ≡ 0)) × (anyKept editing (booked .standing) ≡ false)
+  editor-undo-refusals = undo-refusals editing OfBytes editing-laws f spare history good bytes calls proper
+
+  pub editor-undo-refused : anyKept editing (booked .standing) ≡ false → step editing undo now .answer ≡ answer.Refused 38 0
+  editor-undo-refused = undo-refused editing OfBytes editing-laws f spare history good bytes calls proper
+
+  -- an undo that is accepted takes back the last standing edit
+  pub editor-undo-takes-back : (len used n : ℕ) → step editing undo now .answer ≡ answer.Done len used n
+      → fileOf (next editing undo now) ≡ fileAfter editing f (withoutLast editing (booked .standing))
+  editor-undo-takes-back = undo-takes-back editing OfBytes editing-laws f spare history good bytes calls proper
+
+-- what an edit does not change stays byte for byte: an accepted file is the file of its own records
+pub records-are-the-file : (f : List ℕ) → fileRule f ≡ Good → AllBytes f → plugBytes (plugOf f) ≡ f
+records-are-the-file f good bytes = file-of-plug f (laid f good bytes)

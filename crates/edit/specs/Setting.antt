@@ -9,7 +9,7 @@ use Rattle.fields.specs.Rule.{_then_, unless}
 use Rattle.fields.specs.declared.rule.Verdict.{Verdict}
 use Rattle.fields.specs.declared.rule.Verdict.the-variants.{Good, Refused}
 use Rattle.codeplug.specs.File.{fileRule}
-use Rattle.journal.specs.Machine.{Setting}
+use Rattle.journal.specs.Setting.{Setting}
 use Rattle.plug.specs.Plug.{plugOf}
 use Rattle.plug.specs.declared.Kind.{Kind}
 use Rattle.plug.specs.declared.KindRead.{KindRead}
@@ -41,7 +41,7 @@ refusesKind (Known k) a room f = refusesKnown k (a .first) (a .second) (a .bytes
 unfoldable pub refuses : Asked → ℕ → List ℕ → Verdict
 refuses a room f = refusesKind (kindOf (a .kind)) a room f
 
--- the file that the edit's rule describes
+-- the file that the edit's rule describes (where there is no such edit, 32 was given before)
 unfoldable pub appliedKind : KindRead → Asked → List ℕ → List ℕ
 appliedKind NoKind a f = f
 appliedKind (Known k) a f = result k (a .first) (a .second) (a .bytes) f

@@ -13,7 +13,7 @@ use Rattle.fields.specs.declared.rule.Verdict.the-variants as verdict
 use Rattle.journal.specs.Entry.{Entry, historyBytes}
 use Rattle.journal.specs.History.{kept}
 use Rattle.journal.specs.Change.{entryOf}
-use Rattle.journal.specs.Machine.{Setting}
+use Rattle.journal.specs.Setting.{Setting}
 use Rattle.journal.specs.Book.{Standing, fileAfter, keptEntries, together, dropOldest, trimmed, anyKept, withoutLast}
 use Rattle.journal.proofs.Laws.{GoodEntry, AllGood, good-append, history-none, history-size, history-sizes, kept-all, kept-none, kept-oldest}
 use Rattle.journal.proofs.ChangeLaws.{good-entryOf}

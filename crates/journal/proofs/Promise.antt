@@ -13,13 +13,14 @@ use Rattle.fields.specs.Rule.{_then_, unless}
 use Rattle.fields.proofs.Laws.{AllBytes}
 use Rattle.fields.specs.declared.rule.Verdict.{Verdict}
 use Rattle.fields.specs.declared.rule.Verdict.the-variants as verdict
-use Rattle.journal.specs.Entry.{entrySize, historyBytes}
+use Rattle.journal.specs.Entry.{entrySize, historyBytes, whole}
 use Rattle.journal.specs.Change.{entryOf}
-use Rattle.journal.specs.Machine.{Setting, State, opened, fileOf, stands, Call, edit, undo, step, next, answers, final}
+use Rattle.journal.specs.Setting.{Setting, Call, edit, undo}
+use Rattle.journal.specs.Machine.{State, opened, fileOf, entriesIn, stands, step, next, answers, final}
 use Rattle.journal.specs.Book.{Book, book, bookFile, fileAfter, keptEntries, bookRule, withEdit, afterEdit, anyKept, withoutLast}
 use Rattle.journal.specs.Book.{withStanding, undoRule, afterUndo, state, answerBy, bookNext, bookAnswer, bookAnswers, bookFinal}
 use Rattle.journal.specs.declared.answer.Answer.the-variants.{Done, Refused}
-use Rattle.journal.proofs.StepLaws.{Follows, Step, file-fine, edit-step, undo-step, stands-good}
+use Rattle.journal.proofs.StepLaws.{Follows, Step, newestFirst, file-fine, edit-step, undo-step, entries-in, stands-good}
 
 -- ---- what the promise needs of a setting
 
@@ -169,6 +170,10 @@ module _ (S : Setting) (P : S .Edit → Type 0) (L : Laws S P) (f spare h : List
   pub follows-after : Follows S (stateAfter S f spare h calls) (bookAfter S f spare h calls)
   follows-after =
       agree S P L calls proper (opened f spare h) (book S f (length (f ++ spare)) (length h)) (follows-opened S f spare h good bytes) .follows-on
+
+  -- the history's bytes are exactly the book's kept entries: the number of entries answered is the number that they hold
+  pub entries-after : entriesIn (stateAfter S f spare h calls) ≡ whole (newestFirst S (bookAfter S f spare h calls))
+  entries-after = entries-in S (L .short) (stateAfter S f spare h calls) (bookAfter S f spare h calls) follows-after
 
   -- 30, the file's own refusal and 31 do not arise
   pub stands-after : stands S (stateAfter S f spare h calls) ≡ verdict.Good

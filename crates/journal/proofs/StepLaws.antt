@@ -16,8 +16,10 @@ use Rattle.fields.specs.declared.rule.Verdict.the-variants as verdict
 use Rattle.journal.specs.Entry.{Entry, whole, entrySize, historyBytes}
 use Rattle.journal.specs.History.{kept, recorded}
 use Rattle.journal.specs.Change.{entryOf}
-use Rattle.journal.specs.Machine.{Setting, State, Outcome, holding, fileOf, entriesIn, isWhole, stands, refused, done, newEntry, editRule}
-use Rattle.journal.specs.Machine.{editOutcome, editStep, isGood, entryFits, undoOutcome, undoStep, Call, edit, undo, step, after, next}
+use Rattle.journal.specs.Setting.{Setting}
+use Rattle.journal.specs.Machine.{State, Outcome, holding, fileOf, entriesIn, isWhole, stands, refused, done, newEntry, editRule}
+use Rattle.journal.specs.Setting.{Call, edit, undo}
+use Rattle.journal.specs.Machine.{editOutcome, editStep, isGood, entryFits, undoOutcome, undoStep, step, after, next}
 use Rattle.journal.specs.Book.{Standing, Book, bookFile, fileAfter, keptEntries, trimmed, withStanding, bookRule, withEdit}
 use Rattle.journal.specs.Book.{afterEdit, anyKept, withoutLast, undoRule, afterUndo, state, answerBy, bookNext, bookAnswer}
 use Rattle.journal.specs.declared.answer.Answer.the-variants.{Done, Refused}

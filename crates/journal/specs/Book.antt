@@ -1,5 +1,5 @@
 -- The plain book (document 01, "The plain book"): the opening file and the standing edits in order, each with a note whether its entry is
--- kept. It is fed no answer, no length and no history byte.
+-- kept. It is fed no answer, no length of a content and no history byte.
 use Prim.Native.Nat.{ℕ, zero, suc, _+_}
 use mathlib.Core.Bool.{Bool, true, false, _||_, cond}
 use mathlib.Core.List.{List, [], _∷_, _++_}
@@ -10,7 +10,7 @@ use Rattle.fields.specs.declared.rule.Verdict.{Verdict}
 use Rattle.fields.specs.declared.rule.Verdict.the-variants as verdict
 use Rattle.journal.specs.Entry.{Entry, entrySize}
 use Rattle.journal.specs.Change.{entryOf}
-use Rattle.journal.specs.Machine.{Setting, Call, edit, undo}
+use Rattle.journal.specs.Setting.{Setting, Call, edit, undo}
 use Rattle.journal.specs.declared.answer.Answer.{Answer}
 use Rattle.journal.specs.declared.answer.Answer.the-variants.{Done, Refused}
 

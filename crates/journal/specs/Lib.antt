@@ -4,6 +4,7 @@ pub mod Entry
 pub mod History
 pub mod Scan
 pub mod Change
+pub mod Setting
 pub mod Machine
 pub mod Span
 pub mod Book

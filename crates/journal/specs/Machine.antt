@@ -1,5 +1,4 @@
 -- What a call of edit or undo does to the two lent buffers (document 01, "The refusals, by number", "The twelve edits", "The history").
--- An edit is anything that has a result and refusals of its own: `Setting` says what the edits are and which files are accepted.
 use Prim.Native.Nat.{ℕ, _+_, _-_, max}
 use mathlib.Core.Bool.{Bool, _&&_, cond}
 use mathlib.Core.List.{List, [], _∷_, _++_}
@@ -12,15 +11,9 @@ use Rattle.fields.specs.declared.rule.Verdict.the-variants as verdict
 use Rattle.journal.specs.Entry.{Entry, Entries, whole, broken, entriesOf, entrySize, historyBytes}
 use Rattle.journal.specs.History.{recorded}
 use Rattle.journal.specs.Change.{entryOf, revert}
+use Rattle.journal.specs.Setting.{Setting, Call, edit, undo}
 use Rattle.journal.specs.declared.answer.Answer.{Answer}
 use Rattle.journal.specs.declared.answer.Answer.the-variants.{Done, Refused}
-
--- which files are accepted; an edit's own refusals of a file, its result's among them, in a room of so many bytes; its result
-pub record Setting : Type 1 where
-  pub Edit : Type 0
-  pub accepts : List ℕ → Verdict
-  pub refuses : Edit → ℕ → List ℕ → Verdict
-  pub applied : Edit → List ℕ → List ℕ
 
 -- two buffers, each with the length of its content
 pub record State : Type 0 where
@@ -86,6 +79,7 @@ editRule S e m =
     then S .refuses e (length (m .room)) (fileOf m)
     then unless (leb (entrySize (newEntry S e (fileOf m))) (length (m .history))) 37 0
 
+-- (at Good the history is whole entries: `stands` has judged it)
 unfoldable pub editOutcome : (S : Setting) → S .Edit → State → Verdict → Entries → Outcome
 editOutcome S e m (verdict.Refused n p) t = refused n p m
 editOutcome S e m verdict.Good (whole es) =
@@ -97,16 +91,17 @@ editStep S e m = editOutcome S e m (editRule S e m) (entriesIn m)
 
 -- ---- an undo: 30, the codeplug's own, 31, 38 where the history is empty, 39 where its top entry does not fit
 
--- p + k passes the codeplug, the result exceeds the room, or reading it refuses
 unfoldable pub isGood : Verdict → Bool
 isGood verdict.Good = mathlib.Core.Bool.true
 isGood (verdict.Refused n p) = mathlib.Core.Bool.false
 
+-- p + k stays within the codeplug, the result within the room, and reading it does not refuse
 unfoldable pub entryFits : Setting → Entry → State → Bool
 entryFits S e m =
     leb (e .place + e .put) (m .length-in-room)
     && (leb (length (revert e (fileOf m))) (length (m .room)) && isGood (S .accepts (revert e (fileOf m))))
 
+-- (at Good the history is whole entries: `stands` has judged it)
 unfoldable pub undoOutcome : Setting → State → Verdict → Entries → Outcome
 undoOutcome S m (verdict.Refused n p) t = refused n p m
 undoOutcome S m verdict.Good broken = refused 31 0 m
@@ -117,10 +112,6 @@ unfoldable pub undoStep : Setting → State → Outcome
 undoStep S m = undoOutcome S m (stands S m) (entriesIn m)
 
 -- ---- a list of calls on the same two buffers
-
-pub data Call (S : Setting) : Type 0 where
-  edit : S .Edit → Call S
-  undo : Call S
 
 unfoldable pub step : (S : Setting) → Call S → State → Outcome
 step S (edit e) m = editStep S e m

@@ -34,6 +34,6 @@ unfoldable pub atMost : ℕ → NumberRead → NumberRead
 atMost limit (Number x n) = cond (leb x limit) (Number x n) Broken
 atMost limit Broken = Broken
 
--- the number at the front of s
+-- the number at the front of s; in shortest form a fourth group would pass the limit
 unfoldable pub numberAt : List ℕ → NumberRead
 numberAt s = atMost 1_048_576 (groupsAt 3 true s)
