@@ -1,6 +1,8 @@
 // A change of a codeplug's bytes: planned, measured before anything is written, then made in place.
 pub mod making; // making.rt: a change made in place
+pub mod measuring; // measuring.rt: a change's place and lengths
 mod numbers; // numbers.rt: numbers as small arrays
+mod tails; // tails.rt: how much agrees behind a change of offsets
 
 use renumber::shift::Growth;
 use renumber::shift::Shift;

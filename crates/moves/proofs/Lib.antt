@@ -2,3 +2,4 @@
 pub mod Laws
 pub mod SeamLaws
 pub mod TurnLaws
+pub mod PieceLaws

@@ -1,0 +1,77 @@
+-- The last contact index that moves ends the change; where none does, the cut alone is measured.
+use native.Mathlib.Omega.{arith}
+use borrow.Author.Needs.{needs}
+use mathlib.Core.Path.{ap, _∙_}
+use Rattle.change.specs.Fits.{Fits}
+use Rattle.renumber.specs.Shift.{shiftOf}
+use Rattle.change.proofs.FollowLaws.{moved-at, fits-more, contacts-none, contacts-change}
+use Rattle.change.proofs.measuring.contacts_span.Statement.{statement}
+use Rattle.change.proofs.measuring.contacts_span.Tie as tie
+
+channel-place-requires : tie.Need-channel-place-requires
+channel-place-requires c κs = search needs
+
+channel-count-requires : tie.Need-channel-count-requires
+channel-count-requires c κs = search needs
+
+last-contact-requires : tie.Need-last-contact-requires
+unfolding Fits
+last-contact-requires c κs = (omega arith, omega arith)
+
+enum-told : tie.Need-enum-told
+enum-told c = search needs
+
+counted-span-requires : tie.Need-counted-span-requires
+unfolding Fits
+counted-span-requires c κs =
+    let e = c .before .before .before .before .before .before .before .args in
+    fits-more (e .c) (e .f .now) _ _ (c .before .before .before .before .before .before .before .pre .0) (c .before .before .before .before .before .before .before .pre .0 .end-inside) (omega arith)
+
+enum-known-l : tie.Need-enum-known-l
+enum-known-l c = search needs
+
+le16-requires : tie.Need-le16-requires
+le16-requires c κs =
+    let e = c .before .before .before .before .before .before .before .before .args in
+    let h = c .before .before .before .before .before .before .before .before .pre in
+    let a = moved-at (shiftOf (e .s)) (e .f .now) _ _ _ _ (c .before .l .given .1) (c .before .before .before .last-contact .ensures) in
+    omega (arith, a .inside)
+
+shifted-requires : tie.Need-shifted-requires
+shifted-requires c κs = search needs
+
+apart-span-requires : tie.Need-apart-span-requires
+unfolding Fits
+apart-span-requires c κs =
+    let e = c .before .before .before .before .before .before .before .before .before .before .args in
+    let h = c .before .before .before .before .before .before .before .before .before .before .pre in
+    let a = moved-at (shiftOf (e .s)) (e .f .now) _ _ _ _ (c .before .before .before .l .given .1) (c .before .before .before .before .before .last-contact .ensures) in
+    (fits-more (e .c) (e .f .now) _ _ (h .0) (omega (arith, a .starts)) (omega (arith, a .inside)), a .inside)
+
+returns : tie.Need-returns
+returns c =
+    let e = c .before .before .before .before .before .before .before .before .args in
+    let x = c .before .enum-told .given .1 in
+    let p = contacts-none (e .s) (e .c) (e .r .now) (e .f .now) _ _ _ (c .before .before .before .before .before .channel-place .ensures .0) (c .before .before .before .before .channel-count .ensures .0) x (c .before .before .before .last-contact .ensures) in
+    rw p (c .counted-span .ensures)
+
+returns-2 : tie.Need-returns-2
+returns-2 c =
+    let e = c .before .before .before .before .before .before .before .before .before .before .before .args in
+    contacts-change (e .s) (e .c) (e .r .now) (e .f .now) _ _ _ _ _ _ (c .before .before .before .before .before .before .before .before .channel-place .ensures .0) (c .before .before .before .before .before .before .before .channel-count .ensures .0) (c .before .before .before .before .l .given .1) (c .before .before .before .before .before .before .last-contact .ensures) (c .before .before .before .before .before .before .before .before .before .before .before .pre) (λ i. c .before .before .before .before .before .before .before .before .before .before .shared-slice-known .given i .fits) (c .before .shifted .ensures ∙ ap (shiftOf (e .s)) (c .before .before .le16 .ensures)) (c .apart-span .ensures)
+
+pub contacts-span-spec : {M : Type 1} → statement M
+contacts-span-spec =
+    tie.close
+    (tie.spec
+    channel-place-requires
+    channel-count-requires
+    last-contact-requires
+    enum-told
+    counted-span-requires
+    enum-known-l
+    le16-requires
+    shifted-requires
+    apart-span-requires
+    returns
+    returns-2)
