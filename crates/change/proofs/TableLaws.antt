@@ -46,14 +46,15 @@ offsets-first (suc n) g f p l h = refl
 
 -- ---- entries of a bank come or go, and its count changes
 
-pub entries-seam : (t : Table) (c : Counted) (r f : List ℕ) → CountedFits c f (length f) → TableFits t f (c .counter) → FirstChanges t f → 0 < t .many
+pub entries-seam : (t : Table) (c : Counted) (r f : List ℕ) → CountedFits c f (length f) → TableFits t f (c .counter)
+    → FirstChanges t f → 0 < t .many
     → Seam f (counted c r (tableMoved t f)) (part f (t .start) (c .at + c .gone - t .start))
     (offsetsOf t f
     ++ (part f (afterTable t) (c .counter - afterTable t)
     ++ (littleBytes 2 (c .count) ++ (part f (c .counter + 2) (c .at - (c .counter + 2)) ++ r))))
     (t .start) (length f - (c .at + c .gone)) (length f - c .gone + length r)
 unfolding counted FirstChanges
-entries-seam t c r f h v first-changes z =
+entries-seam t c r f h v changes z =
     let s = t .start in
     let after = afterTable t in
     let p = c .counter in
@@ -103,7 +104,7 @@ entries-seam t c r f h v first-changes z =
       right = omega arith;
       first =
           λ e.
-          first-changes z
+          changes z
           (sym (offsets-first (t .many) (growthOf (t .growth)) f s (u ++ (k ++ (m ++ r))) z)
           ∙ (sym e ∙ part-first f s (q + n - s) (omega arith)));
     })

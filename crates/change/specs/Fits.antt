@@ -1,5 +1,5 @@
 -- Where a plan's places stand in a file; true of every plan that is made for an accepted file.
-use Prim.Native.Nat.{ℕ, _+_, _*_, _%_, _^_, _≤_, _<_}
+use Prim.Native.Nat.{ℕ, _+_, _*_, _%_, _≤_, _<_}
 use mathlib.Core.Path.{_≡_}
 use mathlib.Core.List.{List}
 use lib.ListN.{length, getD}
@@ -37,7 +37,7 @@ Fits (Contacts s c) r f =
     × ((channelPlace f 0 + channelCount f * 90 ≤ length f) × (c .counter ≡ 82))
 Fits (Channels s c) r f =
     CountedFits c f (banksPlace f)
-    × ((bankFrom f (bankCount f) (banksPlace f) ≤ length f) × ((c .counter ≡ 84) × (length f < 2 ^ 32)))
+    × ((bankFrom f (bankCount f) (banksPlace f) ≤ length f) × (c .counter ≡ 84))
 Fits (Entries t c) r f = CountedFits c f (length f) × (TableFits t f (c .counter) × FirstChanges t f)
 Fits (AddBank t at offset c) r f =
     CountedFits c f (t .start)

@@ -22,7 +22,7 @@ use renumber::last::last_entry;
 use renumber::shift::Shift;
 use renumber::shift::shifted;
 ghost use mathlib.Core.Path.{_≡_};
-ghost use Prim.Native.Nat.{_+_, _-_, _*_, _/_, _<_, _≤_};
+ghost use Prim.Native.Nat.{_+_, _-_, _*_, _/_, _^_, _<_, _≤_};
 ghost use mathlib.Core.Bool.{cond};
 ghost use lib.ListN.{length, getD};
 ghost use lib.Dec.{eqb};
@@ -102,7 +102,7 @@ fn contacts_span(f: &[u8], s: Shift, c: Counted, r: &[u8]) -> Span
 }
 
 fn channels_span(f: &[u8], s: Shift, c: Counted, r: &[u8]) -> Span
-    requires { ⌜ Fits (plan.Channels s c) (now r) (now f) ⌝ }
+    requires { ⌜ (Fits (plan.Channels s c) (now r) (now f)) × (length (now f) < 2 ^ 32) ⌝ }
     ensures { λ x. ⌜ x ≡ spanOf (entryOf (now (f .entry)) (planned (plan.Channels s c) (now (r .entry)) (now (f .entry)))) ⌝ }
 {
     match last_entry(f, banks_place(f), bank_count(f), s) {
@@ -152,7 +152,7 @@ fn drop_bank_span(f: &[u8], t: Table, b: Block, c: Counted, r: &[u8]) -> Span
 
 // The place and lengths of the change that a plan makes.
 pub fn span(f: &[u8], p: Plan, r: &[u8]) -> Span
-    requires { ⌜ Fits p (now r) (now f) ⌝ }
+    requires { ⌜ (Fits p (now r) (now f)) × (length (now f) < 2 ^ 32) ⌝ }
     ensures { λ x. ⌜ x ≡ spanOf (entryOf (now (f .entry)) (planned p (now (r .entry)) (now (f .entry)))) ⌝ }
 {
     match p {

@@ -236,7 +236,7 @@ module _ (f : List ℕ) (l : Laid f) where
   unfolding Fits contactPlace channelPlace offsetPlace banksPlace bankPlace
   channels-fit i k n h g s r = (
     record { before = omega arith; inside = omega arith; end-inside = l .table; changes = g },
-    (omega (arith, banks-end-is f (l .banks) (l .table)), (refl, l .short)),
+    (omega (arith, banks-end-is f (l .banks) (l .table)), refl),
   )
 
   contact-fits : (i : ℕ) → i < contactCount f → contactPlace i + 39 ≤ length f

@@ -2,3 +2,4 @@
 pub mod ExchangeLaws
 pub mod StandLaws
 pub mod UndoLaws
+pub mod EditLaws

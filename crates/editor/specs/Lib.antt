@@ -1,3 +1,4 @@
 -- The calls on two lent buffers.
 pub mod Calls
 pub mod Undo
+pub mod Edit

@@ -20,10 +20,10 @@ bank-count-requires c κs = search needs
 last-entry-requires : tie.Need-last-entry-requires
 unfolding Fits
 last-entry-requires c κs =
-    let h = c .before .before .before .before .pre in
+    let h = c .before .before .before .before .pre .0 in
     let f = c .before .before .before .before .args .f .now in
     let rest : bankFrom f (c .bank-count .result) (c .before .banks-place .result) ≤ length f = rw (c .bank-count .ensures .0, c .before .banks-place .ensures .0) (h .1 .0) in
-    ((rest, h .1 .1 .1), omega arith)
+    ((rest, c .before .before .before .before .pre .1), omega arith)
 
 enum-told : tie.Need-enum-told
 enum-told c = search needs
@@ -32,7 +32,7 @@ counted-span-requires : tie.Need-counted-span-requires
 unfolding Fits
 counted-span-requires c κs =
     let e = c .before .before .before .before .before .before .before .args in
-    fits-more (e .c) (e .f .now) _ _ (c .before .before .before .before .before .before .before .pre .0) (c .before .before .before .before .before .before .before .pre .0 .end-inside) (omega arith)
+    fits-more (e .c) (e .f .now) _ _ (c .before .before .before .before .before .before .before .pre .0 .0) (c .before .before .before .before .before .before .before .pre .0 .0 .end-inside) (omega arith)
 
 enum-known-l : tie.Need-enum-known-l
 enum-known-l c = search needs
@@ -51,7 +51,7 @@ apart-span-requires : tie.Need-apart-span-requires
 unfolding Fits
 apart-span-requires c κs =
     let e = c .before .before .before .before .before .before .before .before .before .before .args in
-    let h = c .before .before .before .before .before .before .before .before .before .before .pre in
+    let h = c .before .before .before .before .before .before .before .before .before .before .pre .0 in
     let a = moved-at (shiftOf (e .s)) (e .f .now) _ _ _ _ (c .before .before .before .l .given .1) (c .before .before .before .before .before .last-entry .ensures) in
     (fits-more (e .c) (e .f .now) _ _ (h .0) (omega (arith, a .starts)) (omega (arith, a .inside)), a .inside)
 
@@ -65,7 +65,7 @@ returns c =
 returns-2 : tie.Need-returns-2
 returns-2 c =
     let e = c .before .before .before .before .before .before .before .before .before .before .before .args in
-    channels-change (e .s) (e .c) (e .r .now) (e .f .now) _ _ _ _ _ _ (c .before .before .before .before .before .before .before .before .banks-place .ensures .0) (c .before .before .before .before .before .before .before .bank-count .ensures .0) (c .before .before .before .before .l .given .1) (c .before .before .before .before .before .before .last-entry .ensures) (c .before .before .before .before .before .before .before .before .before .before .before .pre) (λ i. c .before .before .before .before .before .before .before .before .before .before .shared-slice-known .given i .fits) (c .before .shifted .ensures ∙ ap (shiftOf (e .s)) (c .before .before .le16 .ensures)) (c .apart-span .ensures)
+    channels-change (e .s) (e .c) (e .r .now) (e .f .now) _ _ _ _ _ _ (c .before .before .before .before .before .before .before .before .banks-place .ensures .0) (c .before .before .before .before .before .before .before .bank-count .ensures .0) (c .before .before .before .before .l .given .1) (c .before .before .before .before .before .before .last-entry .ensures) (c .before .before .before .before .before .before .before .before .before .before .before .pre .0) (λ i. c .before .before .before .before .before .before .before .before .before .before .shared-slice-known .given i .fits) (c .before .shifted .ensures ∙ ap (shiftOf (e .s)) (c .before .before .le16 .ensures)) (c .apart-span .ensures)
 
 pub channels-span-spec : {M : Type 1} → statement M
 channels-span-spec =

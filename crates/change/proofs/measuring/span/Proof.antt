@@ -10,37 +10,37 @@ enum-known-p c = search needs
 
 replace-span-requires : tie.Need-replace-span-requires
 unfolding Fits
-replace-span-requires c κs = rw (c .before .p .given .1) at (c .before .before .before .before .before .pre)
+replace-span-requires c κs = rw (c .before .p .given .1) at (c .before .before .before .before .before .pre .0)
 
 enum-known-p-2 : tie.Need-enum-known-p-2
 enum-known-p-2 c = search needs
 
 contacts-span-requires : tie.Need-contacts-span-requires
-contacts-span-requires c κs = rw (c .before .p2 .given .1) at (c .before .before .before .before .before .pre)
+contacts-span-requires c κs = rw (c .before .p2 .given .1) at (c .before .before .before .before .before .pre .0)
 
 enum-known-p-3 : tie.Need-enum-known-p-3
 enum-known-p-3 c = search needs
 
 channels-span-requires : tie.Need-channels-span-requires
-channels-span-requires c κs = rw (c .before .p3 .given .1) at (c .before .before .before .before .before .pre)
+channels-span-requires c κs = (rw (c .before .p3 .given .1) at (c .before .before .before .before .before .pre .0), c .before .before .before .before .before .pre .1)
 
 enum-known-p-4 : tie.Need-enum-known-p-4
 enum-known-p-4 c = search needs
 
 entries-span-requires : tie.Need-entries-span-requires
-entries-span-requires c κs = rw (c .before .p4 .given .1) at (c .before .before .before .before .before .pre)
+entries-span-requires c κs = rw (c .before .p4 .given .1) at (c .before .before .before .before .before .pre .0)
 
 enum-known-p-5 : tie.Need-enum-known-p-5
 enum-known-p-5 c = search needs
 
 add-bank-span-requires : tie.Need-add-bank-span-requires
-add-bank-span-requires c κs = rw (c .before .p5 .given .1) at (c .before .before .before .before .before .pre)
+add-bank-span-requires c κs = rw (c .before .p5 .given .1) at (c .before .before .before .before .before .pre .0)
 
 enum-known-p-6 : tie.Need-enum-known-p-6
 enum-known-p-6 c = search needs
 
 drop-bank-span-requires : tie.Need-drop-bank-span-requires
-drop-bank-span-requires c κs = rw (c .before .p6 .given .1) at (c .before .before .before .before .before .pre)
+drop-bank-span-requires c κs = rw (c .before .p6 .given .1) at (c .before .before .before .before .before .pre .0)
 
 returns : tie.Need-returns
 unfolding planned

@@ -1,7 +1,9 @@
--- The name is put over zeros, of which two are left.
+-- The name over zeros.
+use mathlib.Core.Path.{_∙_}
+use Rattle.fields.specs.Bytes.{zeros, littleBytes}
+use Rattle.change.proofs.MakeLaws.{over-fresh}
+use native.Mathlib.Omega.{arith}
 use borrow.Author.Needs.{needs}
-use Rattle.fields.specs.Bytes.{zeros}
-use Rattle.fields.proofs.Laws.{over-zero}
 use Rattle.change.proofs.numbers.empty_bank.Statement.{statement}
 use Rattle.change.proofs.numbers.empty_bank.Tie as tie
 
@@ -12,8 +14,8 @@ put-requires : tie.Need-put-requires
 put-requires c κs = search needs
 
 returns : tie.Need-returns
-unfolding zeros
-returns c = rw (c .before .put .ensures, over-zero, c .before .before .before .before .pre)
+unfolding zeros littleBytes
+returns c = c .before .put .ensures ∙ over-fresh (c .before .before .before .before .args .name .now) 32 2 (omega arith)
 
 pub empty-bank-spec : {M : Type 1} → statement M
 empty-bank-spec = tie.close (tie.spec slice-aggregate-put put-requires returns)

@@ -1,0 +1,262 @@
+-- Laws of an edit: the call's step at a known kind, what an edit has that is not refused, and its change recorded and made.
+use Prim.Native.Nat.{ℕ, _+_, _-_, _≤_, _<_}
+use mathlib.Core.Path.{_≡_, refl, ap, sym, _∙_}
+use mathlib.Core.Bool.{true}
+use mathlib.Core.List.{List}
+use native.Mathlib.Omega.{arith}
+use native.Mathlib.Nat.{zero-add}
+use lib.ListN.{length, take}
+use lib.Seq.{length-take-le}
+use lib.Dec.{leb}
+use borrow.Author.Tests.{le-leb, lt-leb, leb-true, eqb-true}
+use Rattle.fields.specs.Bytes.{part}
+use Rattle.fields.specs.Rule.{_then_, unless}
+use Rattle.fields.specs.declared.rule.Verdict.{Verdict}
+use Rattle.fields.specs.declared.rule.Verdict.the-variants.{Good, Refused}
+use Rattle.fields.proofs.Laws.{AllBytes, then-good, good-then, then-refused, unless-good, part-part, littleBytes-little}
+use Rattle.codeplug.specs.File.{fileRule}
+use Rattle.codeplug.proofs.Laws.{file-good}
+use Rattle.journal.specs.Entry.{Entries, whole, broken, entriesOf, entrySize, historyBytes}
+use Rattle.journal.specs.History.{counted}
+use Rattle.journal.specs.Change.{entryOf}
+use Rattle.journal.specs.Machine.{State, holding, isWhole, fileOf, entriesIn, stands, refused, done, newEntry, editRule, editOutcome, editStep}
+use Rattle.journal.specs.Span.{spanOf, entryFrom, Sound, spanSize, recordedIn}
+use Rattle.journal.specs.declared.answer.Answer.the-variants as answer
+use Rattle.journal.specs.declared.recording.Span.{Span}
+use Rattle.journal.specs.declared.scan.Run.{Run}
+use Rattle.journal.specs.declared.scan.HistoryRead.the-variants as read
+use Rattle.journal.proofs.ChangeLaws.{tail-left, tail-right, length-taken}
+use Rattle.journal.proofs.RecordLaws.{span-size, span-entry, sound-entryOf, span-old}
+use Rattle.change.specs.declared.Plan.{Plan}
+use Rattle.change.specs.Plan.{planned}
+use Rattle.change.specs.Fits.{Fits}
+use Rattle.plug.specs.Plug.{plugOf}
+use Rattle.plug.specs.declared.Kind.{Kind}
+use Rattle.plug.specs.declared.KindRead.{KindRead}
+use Rattle.plug.specs.declared.KindRead.the-variants.{Known, NoKind}
+use Rattle.plug.specs.Edits.{kindOf, recordLength, placeOk, countOk}
+use Rattle.edit.specs.Result.{result}
+use Rattle.edit.specs.Planned.{Makes}
+use Rattle.edit.specs.Setting.{Asked, refusesKnown, refusesKind, refuses, appliedKind, applied, editing}
+use Rattle.editor.specs.Calls.{lent, left}
+use Rattle.editor.specs.Edit.{committed, knownRule, knownOutcome, knownStep}
+use Rattle.editor.proofs.StandLaws.{stand-inside}
+
+-- ---- buffers that stand
+
+pub stand-file : (m : State) → stands editing m ≡ Good → fileRule (fileOf m) ≡ Good
+unfolding stands
+stand-file m e = then-good _ _ (then-good _ _ e .1) .0
+
+whole-held : (t : Entries) → isWhole t ≡ Good → counted t ≡ read.Broken → ⊥
+unfolding counted isWhole
+whole-held (whole es) e b = let z : _≡_ {A = ℕ} 0 1 = cc in absurd (omega arith)
+whole-held broken e b = let z : _≡_ {A = ℕ} 0 1 = cc in absurd (omega arith)
+
+stand-whole : (m : State) → stands editing m ≡ Good → isWhole (entriesIn m) ≡ Good
+unfolding stands
+stand-whole m e = then-good _ _ (then-good _ _ e .1) .1
+
+pub stand-entries : (m : State) → stands editing m ≡ Good → counted (entriesIn m) ≡ read.Broken → ⊥
+stand-entries m e = whole-held (entriesIn m) (stand-whole m e)
+
+-- ---- the call's step, by its kind
+
+pub edit-refused : (a : Asked) (m : State) (n p : ℕ) (v : Verdict) → v ≡ stands editing m → v ≡ Refused n p
+    → left (answer.Refused n p) (m .room) (m .history) ≡ editStep editing a m
+unfolding editStep editRule editOutcome refused
+edit-refused a m n p v e f = rw (sym e ∙ f, then-refused (Refused n p) _ n p refl)
+
+rule-stands : (a : Asked) (m : State) → stands editing m ≡ Good
+    → editRule editing a m
+    ≡ refuses a (length (m .room)) (fileOf m) then unless (leb (entrySize (entryOf (fileOf m) (applied a (fileOf m)))) (length (m .history))) 37 0
+unfolding editRule newEntry
+rule-stands a m e = good-then _ _ e
+
+rule-no-kind : (a : Asked) (m : State) → stands editing m ≡ Good → kindOf (a .kind) ≡ NoKind → editRule editing a m ≡ Refused 32 0
+unfolding refuses refusesKind
+rule-no-kind a m e f = rule-stands a m e ∙ rw f (then-refused (Refused 32 0) _ 32 0 refl)
+
+pub edit-no-kind : (a : Asked) (m : State) (k : KindRead) → stands editing m ≡ Good → k ≡ kindOf (a .kind) → k ≡ NoKind
+    → left (answer.Refused 32 0) (m .room) (m .history) ≡ editStep editing a m
+unfolding editStep editOutcome refused
+edit-no-kind a m k e f g = rw (rule-no-kind a m e (sym f ∙ g))
+
+rule-known : (a : Asked) (m : State) (k : Kind) → stands editing m ≡ Good → kindOf (a .kind) ≡ Known k
+    → editRule editing a m ≡ knownRule k (a .first) (a .second) (a .bytes) m
+unfolding refuses refusesKind applied appliedKind knownRule
+rule-known a m k e f = rule-stands a m e ∙ rw f
+
+applied-known : (a : Asked) (k : Kind) (f : List ℕ) → kindOf (a .kind) ≡ Known k → applied a f ≡ result k (a .first) (a .second) (a .bytes) f
+unfolding applied appliedKind
+applied-known a k f e = rw e
+
+-- both ways to tell the outcome agree
+outcome-known : (a : Asked) (m : State) (k : Kind) (v : Verdict) (t : Entries) → kindOf (a .kind) ≡ Known k → isWhole t ≡ Good → entriesIn m ≡ t
+    → editOutcome editing a m v t ≡ knownOutcome v k (a .first) (a .second) (a .bytes) m
+unfolding editOutcome knownOutcome committed newEntry recordedIn isWhole
+outcome-known a m k (Refused n p) (whole es) f g e = refl
+outcome-known a m k (Refused n p) broken f g e = refl
+outcome-known a m k Good (whole es) f g e = rw (applied-known a k (fileOf m) f, e)
+outcome-known a m k Good broken f g e = let z : _≡_ {A = ℕ} 0 1 = cc in absurd (omega arith)
+
+pub edit-known : (a : Asked) (m : State) (k : Kind) (r : KindRead) → stands editing m ≡ Good → r ≡ kindOf (a .kind) → r ≡ Known k
+    → knownStep k (a .first) (a .second) (a .bytes) m ≡ editStep editing a m
+unfolding editStep knownStep
+edit-known a m k r e f g =
+    let h : kindOf (a .kind) ≡ Known k = sym f ∙ g in
+    sym (rw (rule-known a m k e h) (outcome-known a m k (knownRule k (a .first) (a .second) (a .bytes) m) (entriesIn m) h (stand-whole m e) refl))
+
+-- ---- a change recorded, then made
+
+change-numbers : (f g : List ℕ)
+    → (spanOf (entryOf f g) .place + spanOf (entryOf f g) .taken ≤ length f)
+    × (length f - spanOf (entryOf f g) .taken + spanOf (entryOf f g) .put ≡ length g)
+unfolding spanOf
+change-numbers f g =
+    let l = length-taken f g in
+    let a = tail-left f g in
+    let b = tail-right f g in
+    (unfold entryOf in omega arith, unfold entryOf in omega arith)
+
+-- the change from the content of d to g, in buffers that stand: its numbers, and the bytes of d that its entry keeps
+pub record Changes (d : List ℕ) (len : ℕ) (h : List ℕ) (used : ℕ) (g : List ℕ) (s : Span) : Type 0 where
+  pub held : len ≤ length d
+  pub short : len ≤ 1_048_576
+  pub stored : used ≤ length h
+  pub unbroken : counted (entriesOf (take used h)) ≡ read.Broken → ⊥
+  pub sound : Sound s
+  pub inside : s .place + s .taken ≤ len
+  pub new-is : len - s .taken + s .put ≡ length g
+  pub old-long : length (part d (s .place) (s .taken)) ≡ s .taken
+  pub entry-is : entryFrom s (part d (s .place) (s .taken)) ≡ entryOf (take len d) g
+
+pub stand-accepted : (d : List ℕ) (len : ℕ) (h : List ℕ) (used : ℕ) → stands editing (lent d len h used) ≡ Good
+    → fileRule (take len d) ≡ Good
+unfolding fileOf
+stand-accepted d len h used fine = stand-file (lent d len h used) fine
+
+pub stand-short : (d : List ℕ) (len : ℕ) (h : List ℕ) (used : ℕ) → stands editing (lent d len h used) ≡ Good → length (take len d) ≤ 1_048_576
+stand-short d len h used fine = file-good (take len d) (stand-accepted d len h used fine) .short
+
+stand-unbroken : (d : List ℕ) (len : ℕ) (h : List ℕ) (used : ℕ) → stands editing (lent d len h used) ≡ Good
+    → counted (entriesOf (take used h)) ≡ read.Broken
+    → ⊥
+unfolding entriesIn
+stand-unbroken d len h used fine = stand-entries (lent d len h used) fine
+
+module _ (d : List ℕ) (len : ℕ) (h : List ℕ) (used : ℕ) (g : List ℕ) where
+  changes-at : stands editing (lent d len h used) ≡ Good → length g ≤ 1_048_576 → Changes d len h used g (spanOf (entryOf (take len d) g))
+  changes-at fine small =
+      let f = take len d in
+      let s = spanOf (entryOf f g) in
+      let i = stand-inside d len h used fine in
+      let l : length f ≡ len = length-take-le len d (i .0) in
+      let short = stand-short d len h used fine in
+      let n = change-numbers f g in
+      let o = span-old f g in
+      let q : part f (s .place) (s .taken) ≡ part d (s .place) (s .taken) = part-part d 0 len (s .place) (s .taken) (omega arith) ∙ rw zero-add in
+      record {
+        held = i .0;
+        short = omega arith;
+        stored = i .1;
+        unbroken = stand-unbroken d len h used fine;
+        sound = sound-entryOf f g short small;
+        inside = omega arith;
+        new-is = omega arith;
+        old-long = sym (o .0 ∙ ap length q);
+        entry-is = ap (λ (b : List ℕ). entryFrom s b) (sym (o .1 ∙ q)) ∙ span-entry (entryOf f g);
+      }
+
+  pub changes : (s : Span) → stands editing (lent d len h used) ≡ Good → length g ≤ 1_048_576 → s ≡ spanOf (entryOf (take len d) g)
+      → Changes d len h used g s
+  changes s fine small e = rw e (changes-at fine small)
+
+  -- b is the bytes that the entry keeps; the history is recorded, then the room holds g
+  pub change-made : (s : Span) (b d₁ h₁ : List ℕ) (new : ℕ) (run : Run) → Changes d len h used g s → b ≡ part d (s .place) (s .taken)
+      → new ≡ len - s .taken + s .put → d₁ ≡ holding d len g
+      → h₁ ≡ holding h used (historyBytes (recordedIn (length h) (entryFrom s b) (entriesOf (take used h))))
+      → run
+      ≡ record {
+        bytes = length (historyBytes (recordedIn (length h) (entryFrom s b) (entriesOf (take used h))));
+        entries = length (recordedIn (length h) (entryFrom s b) (entriesOf (take used h)));
+      }
+      → left (answer.Done new (run .bytes) (run .entries)) d₁ h₁ ≡ committed g (lent d len h used)
+  unfolding committed done fileOf entriesIn
+  change-made s b d₁ h₁ new run c e n f i r =
+      let k : entryFrom s b ≡ entryOf (take len d) g = ap (λ (x : List ℕ). entryFrom s x) e ∙ c .entry-is in
+      let l : new ≡ length g = n ∙ c .new-is in
+      rw (f, i, r, l, k)
+
+-- ---- an edit of a known kind
+
+-- what an edit has that is not refused
+pub record Passes (k : Kind) (i j : ℕ) (r : List ℕ) (room : ℕ) (f : List ℕ) : Type 0 where
+  pub wide : length r ≡ recordLength k
+  pub place : placeOk k i j (plugOf f) ≡ true
+  pub count : countOk k i (plugOf f) ≡ true
+  pub good : fileRule (result k i j r f) ≡ Good
+  pub roomy : length (result k i j r f) ≤ room
+
+pub passes : (k : Kind) (i j : ℕ) (r : List ℕ) (room : ℕ) (f : List ℕ) (v : Verdict) → v ≡ refusesKnown k i j r room f → v ≡ Good
+    → Passes k i j r room f
+unfolding refusesKnown
+passes k i j r room f v e g =
+    let wide = then-good _ _ (sym e ∙ g) in
+    let place = then-good _ _ (wide .1) in
+    let count = then-good _ _ (place .1) in
+    let free = then-good _ _ (count .1) in
+    let judged = then-good _ _ (free .1) in
+    record {
+      wide = eqb-true _ _ (unless-good _ _ _ (wide .0));
+      place = unless-good _ _ _ (place .0);
+      count = unless-good _ _ _ (count .0);
+      good = judged .0;
+      roomy = leb-true _ _ (unless-good _ _ _ (judged .1));
+    }
+
+-- the edit's plan p, in a room of so many bytes
+pub record Planned (k : Kind) (i j : ℕ) (r : List ℕ) (room : ℕ) (f : List ℕ) (p : Plan) : Type 0 where
+  pub is : planned p r f ≡ result k i j r f
+  pub fits : Fits p r f
+  pub roomy : length (planned p r f) ≤ room
+  pub small : length (planned p r f) ≤ 1_048_576
+
+pub plans : (k : Kind) (i j : ℕ) (r : List ℕ) (room : ℕ) (f : List ℕ) (p : Plan) → Passes k i j r room f → AllBytes r → Makes p k i j f
+    → Planned k i j r room f p
+unfolding Makes
+plans k i j r room f p h b m =
+    let a = m r (h .wide) (littleBytes-little r b) in
+    let l = ap length (a .0) in
+    let w = h .roomy in
+    let n = file-good (result k i j r f) (h .good) .short in
+    record {
+      is = a .0;
+      fits = a .1;
+      roomy = omega arith;
+      small = omega arith;
+    }
+
+module _ (k : Kind) (i j : ℕ) (r d : List ℕ) (len : ℕ) (h : List ℕ) (used : ℕ) (v : Verdict)
+    (e : v ≡ refusesKnown k i j r (length d) (take len d)) where
+  pub known-refused : (n p : ℕ) → v ≡ Refused n p → left (answer.Refused n p) d h ≡ knownStep k i j r (lent d len h used)
+  unfolding knownStep knownRule knownOutcome refused fileOf
+  known-refused n p g = rw (sym e ∙ g, then-refused (Refused n p) _ n p refl)
+
+  module _ (g : v ≡ Good) (p : Plan) (is : planned p r (take len d) ≡ result k i j r (take len d)) (s : Span)
+      (at : s ≡ spanOf (entryOf (take len d) (planned p r (take len d)))) where
+    rule-37 : knownRule k i j r (lent d len h used) ≡ unless (leb (spanSize s) (length h)) 37 0
+    unfolding knownRule fileOf
+    rule-37 =
+        let n : spanSize s ≡ entrySize (entryOf (take len d) (result k i j r (take len d))) =
+        ap spanSize at ∙ span-size (entryOf (take len d) (planned p r (take len d))) ∙ ap (λ (x : List ℕ). entrySize (entryOf (take len d) x)) is
+        in
+        good-then _ _ (sym e ∙ g) ∙ rw n
+
+    pub known-full : length h < spanSize s → left (answer.Refused 37 0) d h ≡ knownStep k i j r (lent d len h used)
+    unfolding knownStep knownOutcome refused unless
+    known-full q = rw (rule-37, lt-leb (spanSize s) (length h) q)
+
+    pub known-made : spanSize s ≤ length h → committed (planned p r (take len d)) (lent d len h used) ≡ knownStep k i j r (lent d len h used)
+    unfolding knownStep knownOutcome unless fileOf
+    known-made q = rw (rule-37, le-leb (spanSize s) (length h) q, is)

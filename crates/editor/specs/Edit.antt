@@ -1,0 +1,32 @@
+-- The steps of an edit. No promise to a caller rests on these: `edit` is told by `editStep` alone.
+use Prim.Native.Nat.{ℕ}
+use mathlib.Core.List.{List}
+use lib.ListN.{length}
+use lib.Dec.{leb}
+use Rattle.fields.specs.Rule.{_then_, unless}
+use Rattle.fields.specs.declared.rule.Verdict.{Verdict}
+use Rattle.fields.specs.declared.rule.Verdict.the-variants.{Good, Refused}
+use Rattle.journal.specs.Entry.{entrySize}
+use Rattle.journal.specs.Change.{entryOf}
+use Rattle.journal.specs.Span.{recordedIn}
+use Rattle.journal.specs.Machine.{State, Outcome, fileOf, entriesIn, refused, done}
+use Rattle.plug.specs.declared.Kind.{Kind}
+use Rattle.edit.specs.Result.{result}
+use Rattle.edit.specs.Setting.{refusesKnown}
+
+-- the room holds s, and the history the entry of that change first
+unfoldable pub committed : List ℕ → State → Outcome
+committed s m = done s (recordedIn (length (m .history)) (entryOf (fileOf m) s) (entriesIn m)) m
+
+-- what refuses an edit of a known kind, where both buffers stand
+unfoldable pub knownRule : Kind → ℕ → ℕ → List ℕ → State → Verdict
+knownRule k i j r m =
+    refusesKnown k i j r (length (m .room)) (fileOf m)
+    then unless (leb (entrySize (entryOf (fileOf m) (result k i j r (fileOf m)))) (length (m .history))) 37 0
+
+unfoldable pub knownOutcome : Verdict → Kind → ℕ → ℕ → List ℕ → State → Outcome
+knownOutcome Good k i j r m = committed (result k i j r (fileOf m)) m
+knownOutcome (Refused n p) k i j r m = refused n p m
+
+unfoldable pub knownStep : Kind → ℕ → ℕ → List ℕ → State → Outcome
+knownStep k i j r m = knownOutcome (knownRule k i j r m) k i j r m

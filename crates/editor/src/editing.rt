@@ -1,0 +1,101 @@
+// An edit made in place, and its entry recorded.
+use crate::standing::standing;
+use change::Plan;
+use change::making::make;
+use change::measuring::span;
+use edit::planning::plan_of;
+use edit::refusal::refusal;
+use fields::rule::Verdict;
+use journal::answer::Answer;
+use journal::recording::Span;
+use journal::recording::entry_size;
+use journal::recording::record_entry;
+use plug::Kind;
+use plug::KindRead;
+use plug::kind_of;
+ghost use mathlib.Core.Path.{_≡_};
+ghost use Prim.Native.Nat.{_≤_};
+ghost use lib.ListN.{length, take};
+ghost use Rattle.fields.specs.declared.rule.Verdict.the-variants.{Good};
+ghost use Rattle.journal.specs.Change.{entryOf};
+ghost use Rattle.journal.specs.Span.{spanOf, spanSize};
+ghost use Rattle.journal.specs.Machine.{stands, editStep};
+ghost use Rattle.change.specs.Plan.{planned};
+ghost use Rattle.change.specs.Fits.{Fits};
+ghost use Rattle.edit.specs.Setting.{editing};
+ghost use Rattle.editor.specs.Calls.{lent, left, asked};
+ghost use Rattle.editor.specs.Edit.{committed, knownStep};
+
+// There is no such edit.
+pub const NO_KIND: u8 = 32;
+// The new entry alone exceeds the history buffer.
+pub const NO_HISTORY: u8 = 37;
+
+// Records a change whose place and lengths are s, then makes it.
+fn commit(
+    room: &mut [u8],
+    len: usize,
+    history: &mut [u8],
+    used: usize,
+    plan: Plan,
+    s: Span,
+    bytes: &[u8],
+) -> Answer
+    requires { ⌜ ((stands editing (lent (now room) len (now history) used) ≡ Good) × (Fits plan (now bytes) (take len (now room)))) × (((length (planned plan (now bytes) (take len (now room))) ≤ length (now room)) × (length (planned plan (now bytes) (take len (now room))) ≤ 1048576)) × ((s ≡ spanOf (entryOf (take len (now room)) (planned plan (now bytes) (take len (now room))))) × (spanSize s ≤ length (now history)))) ⌝ }
+    ensures { λ r. ⌜ left r (now (room .exit)) (now (history .exit)) ≡ committed (planned plan (now (bytes .entry)) (take len (now (room .entry)))) (lent (now (room .entry)) len (now (history .entry)) used) ⌝ }
+{
+    let from = s.place;
+    let taken = s.taken;
+    let new = len - taken + s.put;
+    let run = record_entry(history, used, s, &room[from..from + taken]);
+    make(room, len, plan, bytes);
+    Answer::Done(new, run.bytes, run.entries)
+}
+
+// An edit of a known kind.
+fn edit_known(
+    room: &mut [u8],
+    len: usize,
+    history: &mut [u8],
+    used: usize,
+    k: Kind,
+    i: usize,
+    j: usize,
+    bytes: &[u8],
+) -> Answer
+    requires { ⌜ stands editing (lent (now room) len (now history) used) ≡ Good ⌝ }
+    ensures { λ r. ⌜ left r (now (room .exit)) (now (history .exit)) ≡ knownStep k i j (now (bytes .entry)) (lent (now (room .entry)) len (now (history .entry)) used) ⌝ }
+{
+    let size = room.len();
+    if let Verdict::Refused(n, p) = refusal(&room[..len], size, k, i, j, bytes) {
+        return Answer::Refused(n, p);
+    }
+    let plan = plan_of(&room[..len], k, i, j);
+    let s = span(&room[..len], plan, bytes);
+    if history.len() < entry_size(s) {
+        return Answer::Refused(NO_HISTORY, 0);
+    }
+    commit(room, len, history, used, plan, s, bytes)
+}
+
+// Makes an edit in both buffers, or refuses it and leaves them as lent.
+pub fn edit(
+    room: &mut [u8],
+    len: usize,
+    history: &mut [u8],
+    used: usize,
+    kind: usize,
+    first: usize,
+    second: usize,
+    bytes: &[u8],
+) -> Answer
+    ensures { λ r. ⌜ left r (now (room .exit)) (now (history .exit)) ≡ editStep editing (asked kind first second (now (bytes .entry))) (lent (now (room .entry)) len (now (history .entry)) used) ⌝ }
+{
+    if let Verdict::Refused(n, p) = standing(room, len, history, used) {
+        return Answer::Refused(n, p);
+    }
+    match kind_of(kind) {
+        KindRead::NoKind => Answer::Refused(NO_KIND, 0),
+        KindRead::Known(k) => edit_known(room, len, history, used, k, first, second, bytes),
+    }
+}
