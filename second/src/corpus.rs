@@ -11,7 +11,9 @@ use obcf_second::sample::{self, Limits, Rng, Shape, Span};
 use obcf_second::tone::Tone;
 use obcf_second::{judge, Counts, Refusal};
 
-/// Makes one case and its line.
+use crate::calls;
+
+/// Makes one case and its line; a list of calls has a line for each call.
 pub type Generator = fn(&mut Rng) -> (Vec<u8>, String);
 
 pub fn generator(kind: &str) -> Option<Generator> {
@@ -21,6 +23,7 @@ pub fn generator(kind: &str) -> Option<Generator> {
         "channels" => Some(channel_case),
         "addresses" => Some(address_case),
         "mixed" => Some(mixed_case),
+        "calls" => Some(calls::case),
         _ => None,
     }
 }
@@ -52,7 +55,7 @@ const NO_LIMITS: Limits = Limits {
 
 // Files.
 
-const LONGEST_CASE: usize = 65_536;
+pub const LONGEST_CASE: usize = 65_536;
 
 const SMALL: Shape = Shape {
     contacts: 12,
@@ -162,7 +165,7 @@ fn good_header_and_noise(rng: &mut Rng) -> Vec<u8> {
 // Spoiling, for files and records alike.
 
 /// Spoils some fields. Each kind of field is as likely as any other.
-fn spoil_some(rng: &mut Rng, bytes: &mut [u8], spans: &[Span], times: usize) {
+pub fn spoil_some(rng: &mut Rng, bytes: &mut [u8], spans: &[Span], times: usize) {
     for _ in 0..times {
         let mut kinds = Vec::new();
         for span in spans {
@@ -573,19 +576,20 @@ fn doubtful_callsign(rng: &mut Rng) -> Vec<u8> {
 // Putting cases and lines together.
 
 /// The bytes of a case.
-struct Case(Vec<u8>);
+#[derive(Default)]
+pub struct Case(pub Vec<u8>);
 
 impl Case {
     fn new(sort: u8) -> Case {
         Case(vec![sort])
     }
 
-    fn raw(mut self, bytes: &[u8]) -> Case {
+    pub fn raw(mut self, bytes: &[u8]) -> Case {
         self.0.extend_from_slice(bytes);
         self
     }
 
-    fn u8(self, byte: u8) -> Case {
+    pub fn u8(self, byte: u8) -> Case {
         self.raw(&[byte])
     }
 
@@ -594,7 +598,7 @@ impl Case {
     }
 
     /// Bytes with their length before them.
-    fn bytes(self, bytes: &[u8]) -> Case {
+    pub fn bytes(self, bytes: &[u8]) -> Case {
         let length = u8::try_from(bytes.len()).expect("at most 255 bytes");
         self.u8(length).raw(bytes)
     }
@@ -638,11 +642,13 @@ mod tests {
         let mut rng = Rng::new(1);
         let mut answers = BTreeMap::new();
         for _ in 0..4_000 {
-            let (case, line) = generate(&mut rng);
+            let (case, lines) = generate(&mut rng);
             assert!(case.len() <= LONGEST_CASE);
-            let words = if line.starts_with("refused") { 2 } else { 1 };
-            let answer = line.split(' ').take(words).collect::<Vec<_>>().join(" ");
-            *answers.entry(answer).or_default() += 1;
+            for line in lines.split('\n') {
+                let words = if line.starts_with("refused") { 2 } else { 1 };
+                let answer = line.split(' ').take(words).collect::<Vec<_>>().join(" ");
+                *answers.entry(answer).or_default() += 1;
+            }
         }
         answers
     }
@@ -681,6 +687,9 @@ mod tests {
             &["number", "text", "broadcast"],
             &[20, 21, 22, 23, 24],
         );
+        // 1 and 34 take larger files.
+        let refusals: Vec<u8> = (2..=12).chain(30..=33).chain(35..=39).collect();
+        covers("calls", &["done"], &refusals);
     }
 
     #[test]

@@ -1,0 +1,21 @@
+-- `call_lists::case::put_first` answers a count of the room's bytes: a write leaves the room its length.
+use native.Mathlib.Omega.{arith}
+use borrow.Author.Needs.{needs}
+use lib.ListN.{length-take}
+use Rattle.call_lists.proofs.case.put_first.Statement.{statement}
+use Rattle.call_lists.proofs.case.put_first.Tie as tie
+
+returns : tie.Need-returns
+returns c = search needs
+
+put-requires : tie.Need-put-requires
+put-requires c κs = search needs
+
+same-length : tie.Need-same-length
+same-length c = search needs
+
+returns-2 : tie.Need-returns-2
+returns-2 c = (omega arith, simp length-take (omega arith))
+
+pub put-first-spec : {M : Type 1} → statement M
+put-first-spec = tie.close (tie.spec returns put-requires same-length returns-2)
