@@ -1,5 +1,5 @@
 -- Laws of plans: each kind's plan makes its result, and its places stand where the plan needs them.
-use Prim.Native.Nat.{ℕ, zero, suc, _+_, _*_, _-_, _%_, _≤_, _<_}
+use Prim.Native.Nat.{ℕ, zero, suc, _+_, _*_, _-_, _%_, _^_, _≤_, _<_}
 use mathlib.Core.Path.{_≡_, refl, ap, sym}
 use mathlib.Core.Bool.{Bool, true, false, _&&_, cond}
 use mathlib.Core.List.{List, [], _∷_}
@@ -83,10 +83,11 @@ bank-read f i t r bytes good h dt dr =
     (e, omega (arith, bank-within f i bytes good (omega arith)))
 
 -- behind the last bank
-pub bank-last : (f : List ℕ) (i : ℕ) → AllBytes f → fileRule f ≡ Good → i ≡ bankCount f → (length f ≡ bankPlace f i) × (length f ≤ length f)
+pub bank-last : (f : List ℕ) (i : ℕ) → AllBytes f → fileRule f ≡ Good → i ≡ bankCount f
+    → (length f ≡ bankPlace f i) × ((length f ≤ length f) × (length f < 2 ^ 33))
 bank-last f i bytes good h =
     let l = laid f good bytes in
-    (rw h (sym (banks-end-is f (l .banks) (l .table))), omega arith)
+    (rw h (sym (banks-end-is f (l .banks) (l .table))), (omega arith, omega (arith, l .short)))
 
 -- ---- what the tests say of an accepted file
 

@@ -98,21 +98,6 @@ module _ (k : Kind) (i j : ℕ) (f : List ℕ) (h : placeOk k i j (plugOf f) ≡
       let l : i < bankCount f = omega (arith, below i n _ g, banks-count f) in
       (l, omega (arith, leb-true j m (and-right (ltb i n) _ g), entries-at f i l, entryCount-lt f (bankPlace f i) b))
 
--- ---- where a bank starts
-
--- bank i by its offset, which stands at t and leads to p
-pub bank-read : (f : List ℕ) (i n t p : ℕ) → fileRule f ≡ Good → n ≡ bankCount f → i < n → t ≡ offsetPlace f i → p ≡ offsetTarget f t
-    → p ≡ bankPlace f i
-bank-read f i n t p h dn g dt dp =
-    let lt : i < bankCount f = omega arith in
-    rw (dp, dt) (bank-leads f i (file-good f h .banks) lt)
-
-pub bank-past : (f : List ℕ) (i n : ℕ) → AllBytes f → fileRule f ≡ Good → n ≡ bankCount f → i ≤ bankCount f → n ≤ i
-    → length f ≡ bankPlace f i
-bank-past f i n b h dn g l =
-    let e : i ≡ bankCount f = omega arith in
-    rw e (sym (banks-end-is f (file-good f h .banks) (laid f h b .table)))
-
 -- ---- a record that is one number
 
 pub whole-number : (r : List ℕ) → length r ≡ 2 → num r 0 2 ≡ little r

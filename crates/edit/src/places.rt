@@ -9,7 +9,10 @@ use plug::Kind;
 ghost use mathlib.Core.Path.{_≡_};
 ghost use mathlib.Core.Bool.{_&&_};
 ghost use lib.Dec.{leb, ltb, eqb};
-ghost use Prim.Native.Nat.{_<_};
+ghost use Prim.Native.Nat.{_<_, _≤_, _^_};
+ghost use lib.ListN.{length};
+ghost use Rattle.layout.specs.Places.{bankCount};
+ghost use Rattle.layout.specs.Banks.{bankPlace};
 ghost use Rattle.fields.specs.declared.rule.Verdict.the-variants.{Good};
 ghost use Rattle.codeplug.specs.File.{fileRule};
 ghost use Rattle.plug.specs.Plug.{plugOf};
@@ -84,4 +87,15 @@ pub fn count_ok(f: &[u8], k: Kind, i: usize) -> bool
         Kind::RemoveEntry => true,
         Kind::SetTitle => true,
     }
+}
+
+// Where bank i starts; past the last, where the file ends.
+pub(crate) fn bank_place(f: &[u8], i: usize) -> usize
+    requires { ⌜ (fileRule (now f) ≡ Good) × (i ≤ bankCount (now f)) ⌝ }
+    ensures { λ p. ⌜ (p ≡ bankPlace (now (f .entry)) i) × ((p ≤ length (now (f .entry))) × (p < 2 ^ 33)) ⌝ }
+{
+    if i < bank_count(f) {
+        return offset_leads(f, offset_place(f, i));
+    }
+    f.len()
 }

@@ -1,10 +1,10 @@
 // The plan of an edit of an accepted file: which bytes it changes, and how.
+use crate::places::bank_place;
 use change::Block;
 use change::Counted;
 use change::Plan;
 use change::Table;
 use layout::banks::entry_count;
-use layout::banks::offset_leads;
 use layout::places::bank_count;
 use layout::places::banks_place;
 use layout::places::channel_count;
@@ -27,17 +27,6 @@ ghost use Rattle.plug.specs.Edits.{placeOk, countOk};
 ghost use Rattle.layout.specs.Places.{bankCount};
 ghost use Rattle.layout.specs.Banks.{bankPlace};
 ghost use Rattle.edit.specs.Planned.{Ready, Makes, tableFrom};
-
-// Where bank i starts, or would.
-pub(crate) fn bank_place(f: &[u8], i: usize) -> usize
-    requires { ⌜ (fileRule (now f) ≡ Good) × (i ≤ bankCount (now f)) ⌝ }
-    ensures { λ r. ⌜ (r ≡ bankPlace (now (f .entry)) i) × (r ≤ length (now (f .entry))) ⌝ }
-{
-    if i < bank_count(f) {
-        return offset_leads(f, offset_place(f, i));
-    }
-    f.len()
-}
 
 // Offsets of bank i and those behind it.
 fn table_from(f: &[u8], i: usize, growth: Growth) -> Table

@@ -1,5 +1,6 @@
 // What reading the result of an edit of an accepted file gives, and how long it is, told without building it.
 use crate::in_use::is_index;
+use crate::places::bank_place;
 use channel::read::named_contact;
 use codeplug::MAX_LENGTH;
 use codeplug::records::index_ok;
@@ -14,13 +15,10 @@ use fields::rule::first;
 use fields::rule::unless;
 use fields::text::text_ok;
 use layout::banks::entry_count;
-use layout::banks::offset_leads;
-use layout::places::bank_count;
 use layout::places::channel_count;
 use layout::places::channel_place;
 use layout::places::contact_place;
 use layout::places::lend;
-use layout::places::offset_place;
 use plug::Kind;
 ghost use mathlib.Core.Path.{_≡_};
 ghost use mathlib.Core.Bool.{true};
@@ -115,17 +113,6 @@ fn insert_channel(f: &[u8], i: usize, r: &[u8]) -> Verdict
 {
     let judged = replace_channel(f, i, r);
     first(may_grow(f, 90), judged)
-}
-
-// Where bank i starts; past the last, where the file ends.
-pub(crate) fn bank_place(f: &[u8], i: usize) -> usize
-    requires { ⌜ (fileRule (now f) ≡ Good) × (i ≤ bankCount (now f)) ⌝ }
-    ensures { λ p. ⌜ (p ≡ bankPlace (now (f .entry)) i) × (p < 2 ^ 33) ⌝ }
-{
-    if i < bank_count(f) {
-        return offset_leads(f, offset_place(f, i));
-    }
-    f.len()
 }
 
 fn insert_bank(f: &[u8], i: usize, r: &[u8]) -> Verdict

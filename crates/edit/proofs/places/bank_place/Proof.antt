@@ -3,8 +3,8 @@ use Rattle.fields.proofs.Laws.{AllBytes}
 use Rattle.edit.proofs.PlanLaws.{bank-read, bank-last}
 use native.Mathlib.Omega.{arith}
 use borrow.Author.Needs.{needs}
-use Rattle.edit.proofs.planning.bank_place.Statement.{statement}
-use Rattle.edit.proofs.planning.bank_place.Tie as tie
+use Rattle.edit.proofs.places.bank_place.Statement.{statement}
+use Rattle.edit.proofs.places.bank_place.Tie as tie
 
 all-bytes : (c : tie.After-shared-slice-known) → AllBytes (c .before .args .f .now)
 all-bytes c n = c .shared-slice-known .given n .fits
@@ -23,7 +23,8 @@ returns c =
     let o = c .before in
     let b = o .before .before in
     let s = b .before in
-    bank-read _ _ _ _ (all-bytes s) (s .before .pre .0) (omega arith) (o .offset-place .ensures .0) (c .offset-leads .ensures .0)
+    let r = bank-read _ _ _ _ (all-bytes s) (s .before .pre .0) (omega arith) (o .offset-place .ensures .0) (c .offset-leads .ensures .0) in
+    (r .0, (r .1, omega arith))
 
 returns-2 : tie.Need-returns-2
 returns-2 c =
