@@ -1,0 +1,58 @@
+-- Writing a channel from its numbers: a good mode is judged as the library judges, a foreign one answers behind the buffer's length.
+use mathlib.Core.Path.{_≡_, refl, sym, _∙_}
+use Prim.Native.Nat.{ℕ, _≤_, _<_}
+use mathlib.Core.Bool.{Bool, true, false}
+use mathlib.Core.List.{List}
+use lib.ListN.{length}
+use lib.Dec.{leb}
+use borrow.Author.Tests.{le-leb, lt-leb}
+use Rattle.fields.specs.Rule.{_then_, unless, written}
+use Rattle.fields.specs.declared.rule.Verdict.{Verdict}
+use Rattle.fields.specs.declared.rule.Verdict.the-variants.{Good, Refused}
+use Rattle.channel.specs.Channel.{modeOk, channelGiven, channelWritten}
+use Rattle.channel.specs.declared.Common.{Common}
+use Rattle.channel.specs.declared.Info.{Info}
+use Rattle.capi.specs.Channels.{commonFrom, infoFrom, channelAsked, channelLeft}
+use Rattle.capi.specs.declared.channel_fields.CommonFields.{CommonFields}
+use Rattle.capi.specs.declared.channel_fields.InfoFields.{InfoFields}
+
+mode-known : (m : ℕ) → m ≤ 2 → modeOk m ≡ true
+unfolding modeOk
+mode-known m h = le-leb m 2 h
+
+mode-foreign : (m : ℕ) → 2 < m → modeOk m ≡ false
+unfolding modeOk
+mode-foreign m h = lt-leb m 2 h
+
+-- a chain that ends in a refusal writes nothing
+stopped : (a : Verdict) (n p : ℕ) (out s : List ℕ) → written (a then Refused n p) out s ≡ out
+unfolding written _then_
+stopped Good n p out s = refl
+stopped (Refused m q) n p out s = refl
+
+module _ (out name description : List ℕ) (common : CommonFields) (info : InfoFields) where
+  asked-known : info .mode ≤ 2
+      → channelAsked (length out) name description common info ≡ channelGiven (length out) name description (commonFrom common) (infoFrom info)
+  unfolding channelAsked channelGiven unless _then_
+  asked-known h = rw (mode-known (info .mode) h)
+
+  asked-foreign : 2 < info .mode → channelAsked (length out) name description common info ≡ unless (leb 90 (length out)) 25 0 then Refused 6 0
+  unfolding channelAsked unless _then_
+  asked-foreign h = rw (mode-foreign (info .mode) h)
+
+  -- the library's answer is the one asked for
+  pub channel-goes : (c : Common) (i : Info) (r : Verdict) (left : List ℕ) → info .mode ≤ 2 → c ≡ commonFrom common → i ≡ infoFrom info
+      → (r ≡ channelGiven (length out) name description c i) × (left ≡ channelWritten out name description c i)
+      → (r ≡ channelAsked (length out) name description common info) × (left ≡ channelLeft out name description common info)
+  unfolding channelWritten channelLeft
+  channel-goes c i r left h ce ie w =
+      let known = asked-known h in
+      (rw (known, ← ce, ← ie) (w .0), rw (known, ← ce, ← ie) (w .1))
+
+  -- the answer to a foreign mode, and the buffer as lent
+  pub channel-stops : (r : Verdict) → 2 < info .mode → r ≡ unless (leb 90 (length out)) 25 0 then Refused 6 0
+      → (r ≡ channelAsked (length out) name description common info) × (out ≡ channelLeft out name description common info)
+  unfolding channelLeft
+  channel-stops r h e =
+      let foreign = asked-foreign h in
+      (e ∙ sym foreign, rw foreign (sym (stopped (unless (leb 90 (length out)) 25 0) 6 0 out _)))

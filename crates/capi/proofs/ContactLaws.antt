@@ -1,0 +1,63 @@
+-- Writing a contact from its numbers: a good mode is judged as the library judges, a foreign one answers behind the name.
+use mathlib.Core.Path.{_≡_, refl, sym, _∙_}
+use Prim.Native.Nat.{ℕ}
+use mathlib.Core.Bool.{Bool, true, false}
+use mathlib.Core.List.{List}
+use lib.ListN.{length}
+use lib.Dec.{leb}
+use borrow.Author.Tests.{ne-eqb}
+use Rattle.fields.specs.Text.{givenOk}
+use Rattle.fields.specs.Rule.{_then_, unless, written}
+use Rattle.fields.specs.declared.rule.Verdict.{Verdict}
+use Rattle.fields.specs.declared.rule.Verdict.the-variants.{Good, Refused}
+use Rattle.contact.specs.Contact.{modeOk, contactGiven, contactWritten}
+use Rattle.contact.specs.declared.ContactInfo.{ContactInfo}
+use Rattle.capi.specs.Contacts.{infoFrom, contactAsked, contactLeft}
+use Rattle.capi.specs.declared.contacts.ContactFields.{ContactFields}
+
+pub dmr-known : (m : ℕ) → m ≡ 1 → modeOk m ≡ true
+unfolding modeOk
+dmr-known m e = rw e
+
+pub m17-known : (m : ℕ) → m ≡ 2 → modeOk m ≡ true
+unfolding modeOk
+m17-known m e = rw e
+
+pub mode-foreign : (m : ℕ) → (m ≡ 1 → ⊥) → (m ≡ 2 → ⊥) → modeOk m ≡ false
+unfolding modeOk
+mode-foreign m one two = rw (ne-eqb m 1 one, ne-eqb m 2 two)
+
+asked-known : (size : ℕ) (name : List ℕ) (v : ContactFields) → modeOk (v .mode) ≡ true
+    → contactAsked size name v ≡ contactGiven size name (infoFrom v)
+unfolding contactAsked contactGiven unless _then_
+asked-known size name v ok = rw ok
+
+asked-foreign : (size : ℕ) (name : List ℕ) (v : ContactFields) → modeOk (v .mode) ≡ false
+    → contactAsked size name v ≡ unless (leb 39 size) 25 0 then unless (givenOk name) 5 0 then Refused 6 32
+unfolding contactAsked unless _then_
+asked-foreign size name v bad = rw bad
+
+-- a chain that ends in a refusal writes nothing
+stopped : (a b : Verdict) (n p : ℕ) (out s : List ℕ) → written (a then b then Refused n p) out s ≡ out
+unfolding written _then_
+stopped Good Good n p out s = refl
+stopped Good (Refused m q) n p out s = refl
+stopped (Refused m q) b n p out s = refl
+
+-- the library's answer is the one asked for
+pub contact-goes : (out name : List ℕ) (v : ContactFields) (info : ContactInfo) (r : Verdict) (left : List ℕ) → modeOk (v .mode) ≡ true
+    → info ≡ infoFrom v → (r ≡ contactGiven (length out) name info) × (left ≡ contactWritten out name info)
+    → (r ≡ contactAsked (length out) name v) × (left ≡ contactLeft out name v)
+unfolding contactWritten contactLeft
+contact-goes out name v info r left ok means w =
+    let known = asked-known (length out) name v ok in
+    (rw (known, ← means) (w .0), rw (known, ← means) (w .1))
+
+-- the answer to a foreign mode, and the buffer as lent
+pub contact-stops : (out name : List ℕ) (v : ContactFields) (r : Verdict) → modeOk (v .mode) ≡ false
+    → r ≡ unless (leb 39 (length out)) 25 0 then unless (givenOk name) 5 0 then Refused 6 32
+    → (r ≡ contactAsked (length out) name v) × (out ≡ contactLeft out name v)
+unfolding contactLeft
+contact-stops out name v r bad e =
+    let foreign = asked-foreign (length out) name v bad in
+    (e ∙ sym foreign, rw foreign (sym (stopped (unless (leb 39 (length out)) 25 0) (unless (givenOk name) 5 0) 6 32 out _)))

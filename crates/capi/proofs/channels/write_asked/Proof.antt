@@ -1,0 +1,51 @@
+-- A good mode is judged as the library judges; a foreign one answers in its turn.
+use mathlib.Core.Path.{_∙_}
+use Rattle.capi.proofs.ChannelLaws.{channel-goes, channel-stops}
+use native.Mathlib.Omega.{arith}
+use borrow.Author.Needs.{needs}
+use Rattle.capi.proofs.channels.write_asked.Statement.{statement}
+use Rattle.capi.proofs.channels.write_asked.Tie as tie
+
+unless-requires : tie.Need-unless-requires
+unless-requires c κs = search needs
+
+first-requires : tie.Need-first-requires
+first-requires c κs = search needs
+
+returns : tie.Need-returns
+returns c =
+    let a = c .before .before .before .before .before .before .before .args in
+    channel-stops (a .out .now) (a .name .now) (a .description .now) (a .common) (a .info) _ (omega arith)
+    (c .first .ensures ∙ rw (c .before .unless .ensures))
+
+common-from-requires : tie.Need-common-from-requires
+common-from-requires c κs = search needs
+
+info-from-requires : tie.Need-info-from-requires
+info-from-requires c κs = search needs
+
+write-requires : tie.Need-write-requires
+write-requires c κs = search needs
+
+same-length : tie.Need-same-length
+same-length c = search needs
+
+returns-2 : tie.Need-returns-2
+returns-2 c =
+    let w = c .before .before in
+    let a = w .before .before .before .before .before .before .before .before .before .args in
+    channel-goes (a .out .now) (a .name .now) (a .description .now) (a .common) (a .info) _ _ _ _ (omega arith)
+    (w .before .before .common-from .ensures) (w .before .info-from .ensures) (w .write .ensures)
+
+pub write-asked-spec : {M : Type 1} → statement M
+write-asked-spec =
+    tie.close
+    (tie.spec
+    unless-requires
+    first-requires
+    returns
+    common-from-requires
+    info-from-requires
+    write-requires
+    same-length
+    returns-2)

@@ -1,0 +1,20 @@
+-- The mode chooses the info.
+use Rattle.capi.specs.Contacts.{infoFrom}
+use borrow.Author.Tests.{eq-eqb, ne-eqb}
+use borrow.Author.Needs.{needs}
+use Rattle.capi.proofs.contacts.info_from.Statement.{statement}
+use Rattle.capi.proofs.contacts.info_from.Tie as tie
+
+returns : tie.Need-returns
+unfolding infoFrom
+returns c = rw (eq-eqb _ 1 (c .if1 .taken))
+
+address-from-requires : tie.Need-address-from-requires
+address-from-requires c κs = search needs
+
+returns-2 : tie.Need-returns-2
+unfolding infoFrom
+returns-2 c = rw (ne-eqb _ 1 (c .before .if1 .left), c .address-from .ensures)
+
+pub info-from-spec : {M : Type 1} → statement M
+info-from-spec = tie.close (tie.spec returns address-from-requires returns-2)
