@@ -1,8 +1,9 @@
 -- Demand 3 for codeplugs: the promise over every list of calls (journal, proofs/Promise.antt) at the editor's own edits. It speaks of every
 -- edit whose record is bytes, which is every one that code can pass.
-use Prim.Native.Nat.{ℕ, _≤_}
+use Prim.Native.Nat.{ℕ, _≤_, _<_}
 use mathlib.Core.Path.{_≡_}
 use mathlib.Core.Bool.{true, false, not}
+use mathlib.Core.Logic.{_⊎_}
 use mathlib.Core.List.{List, _++_}
 use native.Mathlib.Omega.{arith}
 use lib.ListN.{length}
@@ -12,12 +13,13 @@ use Rattle.fields.specs.declared.rule.Verdict.{Verdict}
 use Rattle.fields.specs.declared.rule.Verdict.the-variants.{Good, Refused}
 use Rattle.codeplug.specs.File.{fileRule}
 use Rattle.codeplug.proofs.Laws.{file-good}
-use Rattle.journal.specs.Setting.{Call, undo}
+use Rattle.journal.specs.Setting.{Call, edit, undo}
 use Rattle.journal.specs.Machine.{State, opened, answers, final, fileOf, entriesIn, stands, step, next}
 use Rattle.journal.specs.Book.{Book, book, bookAnswers, bookFile, bookFinal, fileAfter, anyKept, withoutLast}
-use Rattle.journal.proofs.Promise.{Laws, EveryEdit, promise, stateAfter, bookAfter, entries-after, stands-after, undo-refusals, undo-refused, undo-takes-back}
+use Rattle.journal.proofs.Promise.{Laws, EveryEdit, promise, stateAfter, bookAfter, entries-after, stands-after, edit-refusals, undo-refusals, undo-refused, undo-takes-back}
 use Rattle.journal.proofs.StepLaws.{newestFirst}
-use Rattle.journal.specs.Entry.{whole}
+use Rattle.journal.specs.Entry.{entrySize, whole}
+use Rattle.journal.specs.Change.{entryOf}
 use Rattle.journal.specs.declared.answer.Answer.the-variants as answer
 use Rattle.plug.specs.declared.KindRead.{KindRead}
 use Rattle.plug.specs.declared.KindRead.the-variants.{Known, NoKind}
@@ -87,6 +89,12 @@ module _ (f spare history : List ℕ) (good : fileRule f ≡ Good) (bytes : AllB
   -- the history's bytes are exactly the kept entries, newest first
   pub editor-entries : entriesIn now ≡ whole (newestFirst editing booked)
   editor-entries = entries-after editing OfBytes editing-laws f spare history good bytes calls proper
+
+  -- an edit is refused by its own refusals of the file, and then by 37 at 0 where its entry alone exceeds the history buffer: no other
+  pub editor-edit-refusals : (a : Asked) → OfBytes a → (n p : ℕ) → step editing (edit a) now .answer ≡ answer.Refused n p
+      → (refuses a (length (f ++ spare)) (fileOf now) ≡ Refused n p)
+      ⊎ (((n ≡ 37) × (p ≡ 0)) × (length history < entrySize (entryOf (fileOf now) (applied a (fileOf now)))))
+  editor-edit-refusals = edit-refusals editing OfBytes editing-laws f spare history good bytes calls proper
 
   -- an undo is refused exactly where no standing edit's entry is kept, by 38 at 0; 39 does not arise
   pub editor-undo-refusals : (n p : ℕ) → step editing undo now .answer ≡ answer.Refused n p
