@@ -7,9 +7,9 @@ use native.Mathlib.Numerals.{add-one}
 use lib.ListN.{length, getD, take, drop, set, length-append, length-reverse, take-append-drop}
 use lib.Seq.{take-at, drop-at, drop-drop, drop-cons, length-take-le}
 use Rattle.fields.specs.Bytes.{part, over}
-use Rattle.fields.proofs.Laws.{length-part, length-over, part-at, part-suc, over-none}
+use Rattle.fields.proofs.Laws.{length-part, length-over, part-at, part-suc, over-none, over-over, over-zero}
 use Rattle.moves.specs.Turn.{reversed, turned}
-use Rattle.moves.proofs.Laws.{over-next, getD-over-behind}
+use Rattle.moves.proofs.Laws.{over-next, over-ahead, getD-over-behind}
 
 -- ---- a list in pieces
 
@@ -189,6 +189,47 @@ turned-by d x y k n m e f h g =
     ∙ ap (λ (u : List ℕ). p ++ (u ++ q)) r
     ∙ ap (λ (u : List ℕ). p ++ u) (append-assoc b a q)
     ∙ sym (turned-mid d p a b q k n m whole lp la (omega arith))
+
+-- turned by nothing and by all
+pub turned-none : (d : List ℕ) (k n m : ℕ) → m ≡ 0 → k + n ≤ length d → d ≡ turned d k n m
+turned-none d k n m e h =
+    let lm : 0 ≡ m = omega arith in
+    let l : length (part d k n) ≡ n = length-part d k n h in
+    cut-three d k n
+    ∙ sym (turned-mid d (take k d) [] (part d k n) (drop (k + n) d) k n m (cut-three d k n) (length-take-le k d (omega arith)) lm (omega arith))
+
+pub turned-all : (d : List ℕ) (k n m : ℕ) → m ≡ n → k + n ≤ length d → d ≡ turned d k n m
+turned-all d k n m e h =
+    let l : length (part d k n) ≡ n = length-part d k n h in
+    cut-three d k n
+    ∙ sym (turned-mid d (take k d) (part d k n) [] (drop (k + n) d) k n m (cut-three d k n) (length-take-le k d (omega arith)) (omega arith) (omega arith))
+
+-- what was kept aside at the front of z
+kept : (s z a : List ℕ) (m : ℕ) → s ≡ over z 0 a → length a ≡ m → take m s ≡ a
+kept s z a m e h = rw (e, over-zero z a) (take-at a (drop (length a) z) m h)
+
+-- the first kept in s, the others moved down, the first put behind them; o and r are the lists after each
+pub turned-down : (d z s o r : List ℕ) (k n m : ℕ) → s ≡ over z 0 (part d k (k + m - k)) → o ≡ over d (k + m - m) (part d (k + m) (n - m))
+    → r ≡ over o (k + (n - m)) (take m s) → k + n ≤ length d → m ≤ n → r ≡ turned d k n m
+unfolding turned
+turned-down d z s o r k n m q e f h g =
+    let l : length (part d (k + m) (n - m)) ≡ n - m = length-part d (k + m) (n - m) (omega arith) in
+    let i : k + m - m ≡ k = omega arith in
+    let w : k + m - k ≡ m = omega arith in
+    let j : k + (n - m) ≡ k + length (part d (k + m) (n - m)) = omega arith in
+    let u : take m s ≡ part d k m = kept s z (part d k m) m (rw w at q) (length-part d k m (omega arith)) in
+    rw (f, e, i, u) (over-over d k (part d (k + m) (n - m)) (k + (n - m)) (part d k m) j (omega arith))
+
+-- the last kept in s, the others moved up, the last put in front of them
+pub turned-up : (d z s o r : List ℕ) (k n m : ℕ) → s ≡ over z 0 (part d (k + m) (k + n - (k + m))) → o ≡ over d (k + (n - m)) (part d k m)
+    → r ≡ over o k (take (n - m) s) → k + n ≤ length d → m ≤ n → r ≡ turned d k n m
+unfolding turned
+turned-up d z s o r k n m q e f h g =
+    let l : length (part d (k + m) (n - m)) ≡ n - m = length-part d (k + m) (n - m) (omega arith) in
+    let w : k + n - (k + m) ≡ n - m = omega arith in
+    let j : k + (n - m) ≡ k + length (part d (k + m) (n - m)) = omega arith in
+    let u : take (n - m) s ≡ part d (k + m) (n - m) = kept s z (part d (k + m) (n - m)) (n - m) (rw w at q) l in
+    rw (f, e, u) (over-ahead d k (part d (k + m) (n - m)) (k + (n - m)) (part d k m) j (omega arith))
 
 pub length-turned : (d : List ℕ) (k n m : ℕ) → k + n ≤ length d → m ≤ n → length (turned d k n m) ≡ length d
 unfolding turned

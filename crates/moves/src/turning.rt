@@ -1,4 +1,7 @@
 // Bytes of a buffer reversed or turned, and blocks of two buffers swapped: moves that can be taken back.
+use crate::block::move_down;
+use crate::block::move_up;
+use fields::put::put;
 ghost use mathlib.Core.Path.{_≡_};
 ghost use Prim.Native.Nat.{_+_, _≤_};
 ghost use lib.ListN.{length};
@@ -21,8 +24,52 @@ pub fn reverse(d: &mut [u8], from: usize, n: usize)
     }
 }
 
-// Turns the n bytes at `from` left by `by` places, by three reversals.
+// Turns the n bytes at `from` left by `by` places. Where few change sides, they are kept aside and the others moved as a block.
 pub fn turn(d: &mut [u8], from: usize, n: usize, by: usize)
+    requires { ⌜ (from + n ≤ length (now d)) × (by ≤ n) ⌝ }
+    ensures { λ _. ⌜ now (d .exit) ≡ turned (now (d .entry)) from n by ⌝ }
+{
+    if by == 0 {
+        return;
+    }
+    if by == n {
+        return;
+    }
+    if by <= 128 {
+        turn_few_first(d, from, n, by);
+        return;
+    }
+    if n - by <= 128 {
+        turn_few_last(d, from, n, by);
+        return;
+    }
+    turn_many(d, from, n, by);
+}
+
+// The first bytes kept aside, the others moved down.
+fn turn_few_first(d: &mut [u8], from: usize, n: usize, by: usize)
+    requires { ⌜ (from + n ≤ length (now d)) × ((by ≤ n) × (by ≤ 128)) ⌝ }
+    ensures { λ _. ⌜ now (d .exit) ≡ turned (now (d .entry)) from n by ⌝ }
+{
+    let mut saved = [0u8; 128];
+    put(&mut saved, 0, &d[from..from + by]);
+    move_down(d, from + by, n - by, by);
+    put(d, from + (n - by), &saved[..by]);
+}
+
+// The last bytes kept aside, the others moved up.
+fn turn_few_last(d: &mut [u8], from: usize, n: usize, by: usize)
+    requires { ⌜ (from + n ≤ length (now d)) × ((by ≤ n) × (n ≤ by + 128)) ⌝ }
+    ensures { λ _. ⌜ now (d .exit) ≡ turned (now (d .entry)) from n by ⌝ }
+{
+    let mut saved = [0u8; 128];
+    put(&mut saved, 0, &d[from + by..from + n]);
+    move_up(d, from, by, n - by);
+    put(d, from, &saved[..n - by]);
+}
+
+// Three reversals.
+fn turn_many(d: &mut [u8], from: usize, n: usize, by: usize)
     requires { ⌜ (from + n ≤ length (now d)) × (by ≤ n) ⌝ }
     ensures { λ _. ⌜ now (d .exit) ≡ turned (now (d .entry)) from n by ⌝ }
 {

@@ -1,45 +1,63 @@
--- Each part reversed, then both together.
-use mathlib.Core.Path.{_∙_}
-use Rattle.moves.proofs.TurnLaws.{turned-by}
+-- Nothing turned, or one of the three ways.
+use Rattle.moves.proofs.TurnLaws.{turned-none, turned-all}
 use native.Mathlib.Omega.{arith}
 use borrow.Author.Needs.{needs}
 use Rattle.moves.proofs.turning.turn.Statement.{statement}
 use Rattle.moves.proofs.turning.turn.Tie as tie
 
-reverse-requires : tie.Need-reverse-requires
-reverse-requires c κs = search needs
+returns : tie.Need-returns
+returns c =
+    let e = c .before .before .args in
+    turned-none (e .d .now) (e .from) (e .n) (e .by) (omega arith) (omega arith)
 
-add-reverse : tie.Need-add-reverse
-add-reverse c = search needs
+returns-2 : tie.Need-returns-2
+returns-2 c =
+    let e = c .before .before .before .args in
+    turned-all (e .d .now) (e .from) (e .n) (e .by) (omega arith) (omega arith)
 
-sub-reverse : tie.Need-sub-reverse
-sub-reverse c = search needs
-
-reverse-requires-2 : tie.Need-reverse-requires-2
-reverse-requires-2 c κs = search needs
-
-reverse-requires-3 : tie.Need-reverse-requires-3
-reverse-requires-3 c κs = search needs
+turn-few-first-requires : tie.Need-turn-few-first-requires
+turn-few-first-requires c κs = search needs
 
 same-length : tie.Need-same-length
 same-length c = search needs
 
-returns : tie.Need-returns
-returns c =
-    let r = c .before .before .before .before .before .before in
-    let f = r .before .before .before .before in
-    let e = f .before .before .before .args in
-    c .before .before .reverse3 .ensures
-    ∙ turned-by (e .d .now) _ _ (e .from) (e .n) (e .by) (f .reverse .ensures) (r .reverse2 .ensures) (omega arith) (omega arith)
+returns-3 : tie.Need-returns-3
+returns-3 c = search needs
+
+sub-if4 : tie.Need-sub-if4
+sub-if4 c = search needs
+
+turn-few-last-requires : tie.Need-turn-few-last-requires
+turn-few-last-requires c κs = search needs
+
+same-length-2 : tie.Need-same-length-2
+same-length-2 c = search needs
+
+returns-4 : tie.Need-returns-4
+returns-4 c = search needs
+
+turn-many-requires : tie.Need-turn-many-requires
+turn-many-requires c κs = search needs
+
+same-length-3 : tie.Need-same-length-3
+same-length-3 c = search needs
+
+returns-5 : tie.Need-returns-5
+returns-5 c = search needs
 
 pub turn-spec : {M : Type 1} → statement M
 turn-spec =
     tie.close
     (tie.spec
-    reverse-requires
-    add-reverse
-    sub-reverse
-    reverse-requires-2
-    reverse-requires-3
+    returns
+    returns-2
+    turn-few-first-requires
     same-length
-    returns)
+    returns-3
+    sub-if4
+    turn-few-last-requires
+    same-length-2
+    returns-4
+    turn-many-requires
+    same-length-3
+    returns-5)

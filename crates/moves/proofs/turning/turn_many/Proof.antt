@@ -1,0 +1,45 @@
+-- Each part reversed, then both together.
+use mathlib.Core.Path.{_∙_}
+use Rattle.moves.proofs.TurnLaws.{turned-by}
+use native.Mathlib.Omega.{arith}
+use borrow.Author.Needs.{needs}
+use Rattle.moves.proofs.turning.turn_many.Statement.{statement}
+use Rattle.moves.proofs.turning.turn_many.Tie as tie
+
+reverse-requires : tie.Need-reverse-requires
+reverse-requires c κs = search needs
+
+add-reverse : tie.Need-add-reverse
+add-reverse c = search needs
+
+sub-reverse : tie.Need-sub-reverse
+sub-reverse c = search needs
+
+reverse-requires-2 : tie.Need-reverse-requires-2
+reverse-requires-2 c κs = search needs
+
+reverse-requires-3 : tie.Need-reverse-requires-3
+reverse-requires-3 c κs = search needs
+
+same-length : tie.Need-same-length
+same-length c = search needs
+
+returns : tie.Need-returns
+returns c =
+    let r = c .before .before .before .before .before .before in
+    let f = r .before .before .before .before in
+    let e = f .before .before .before .args in
+    c .before .before .reverse3 .ensures
+    ∙ turned-by (e .d .now) _ _ (e .from) (e .n) (e .by) (f .reverse .ensures) (r .reverse2 .ensures) (omega arith) (omega arith)
+
+pub turn-many-spec : {M : Type 1} → statement M
+turn-many-spec =
+    tie.close
+    (tie.spec
+    reverse-requires
+    add-reverse
+    sub-reverse
+    reverse-requires-2
+    reverse-requires-3
+    same-length
+    returns)
