@@ -1,0 +1,102 @@
+//! A batch: different files of one size, 1 MiB together, so that every size meets the same caches and branch predictor.
+
+use crate::cases::{self, Case};
+use crate::files;
+use crate::makers::{Buffer, Maker, Set, MAKERS};
+use crate::timing::{medians, Timed};
+use obcf_second::edit::Edit;
+
+pub const WHOLE: usize = 1 << 20;
+
+pub struct Batch {
+    pub sets: Vec<Set>,
+}
+
+impl Batch {
+    /// As many files of a size as make 1 MiB.
+    pub fn whole(size: usize) -> Batch {
+        Batch::new(size, WHOLE / size)
+    }
+
+    /// So many files of a size, each in a room of that size, and each with a history of sixteen earlier edits in twice that size.
+    pub fn new(size: usize, files: usize) -> Batch {
+        let sets = (0..files).map(|seed| opened(size, seed as u64)).collect();
+        Batch { sets }
+    }
+
+    pub fn bytes(&self) -> usize {
+        self.sets.iter().map(|set| set.room.length).sum()
+    }
+
+    /// The edits by case, and in each case by file.
+    pub fn cases(&self) -> Vec<(Case, Vec<Edit>)> {
+        let by_file: Vec<Vec<Case>> = self.sets.iter().map(|set| cases::all(set.file())).collect();
+        let edits = |n: usize| by_file.iter().map(|cases| cases[n].edit.clone()).collect();
+        cases::all(self.sets[0].file())
+            .into_iter()
+            .enumerate()
+            .map(|(n, case)| (case, edits(n)))
+            .collect()
+    }
+
+    /// The batch after an edit of each file.
+    pub fn edited(&self, edits: &[Edit]) -> Batch {
+        let sets = self
+            .sets
+            .iter()
+            .zip(edits)
+            .map(|(set, edit)| made(set, Some(edit)))
+            .collect();
+        Batch { sets }
+    }
+
+    /// Tries an undo in each file.
+    pub fn try_undo(&self) {
+        for set in &self.sets {
+            made(set, None);
+        }
+    }
+}
+
+/// Median nanoseconds per byte of the three, for each batch; all of them interleaved.
+pub fn per_byte<'a, T: Timed>(
+    runs: usize,
+    batches: &'a [Batch],
+    make: impl Fn(usize, &'a [Set], Maker) -> T,
+) -> Vec<[f64; 3]> {
+    let all = batches.iter().enumerate();
+    let timed = all.flat_map(|(n, batch)| MAKERS.map(|maker| make(n, &batch.sets, maker)));
+    let times = medians(runs, timed.collect());
+    let by_batch = times.as_chunks::<3>().0.iter().zip(batches);
+    by_batch
+        .map(|(times, batch)| times.map(|time| time / batch.bytes() as f64))
+        .collect()
+}
+
+fn opened(size: usize, seed: u64) -> Set {
+    let file = files::typical(size, seed);
+    let mut set = Set {
+        room: Buffer::new(&file, size),
+        past: Buffer::new(&[], 2 * size),
+    };
+    for edit in cases::earlier(&file) {
+        set = made(&set, Some(&edit));
+    }
+    set
+}
+
+/// Makes a call, or an undo, by all three: they must agree in the answer and in every byte of both buffers.
+fn made(set: &Set, edit: Option<&Edit>) -> Set {
+    let [a, b, c] = MAKERS.map(|maker| {
+        let mut set = set.clone();
+        let answer = match edit {
+            Some(edit) => maker.edit(&mut set, edit),
+            None => maker.undo(&mut set),
+        };
+        let answer = answer.expect("accepted");
+        set.grown(&answer);
+        (answer, set)
+    });
+    assert!(a == b && b == c, "the three differ");
+    a.1
+}

@@ -1,0 +1,100 @@
+//! A typical codeplug of a given size: mostly channels of all three modes, some hundred contacts, and banks.
+//!
+//! The first, middle and last contact are named by no channel, and those channels stand in no bank, so that they can be removed.
+
+use obcf_second::record::{Channel, Contact, Mode};
+use obcf_second::sample::{self, Rng};
+
+/// Bytes left free below the size, so that an insertion stays within it.
+pub const SPARE: usize = 256;
+
+/// The first, the middle and the last of a list.
+pub fn three(count: usize) -> [usize; 3] {
+    [0, count / 2, count - 1]
+}
+
+/// A good file of `size - SPARE` bytes, 16 KiB or more. The seed changes its records, and none of its counts.
+pub fn typical(size: usize, seed: u64) -> Vec<u8> {
+    let rng = &mut Rng::new(seed);
+    let length = size - SPARE;
+    // 60 contacts at 16 KiB, twice as many at four times the size: 480 at 1 MiB.
+    let contacts = 2 * (30.0 * (size as f64 / 16_384.0).sqrt()) as usize;
+    let banks = size / 8_192;
+    let fixed = 88 + 39 * contacts + banks * (4 + 34 + 2 * 24);
+    let channels = (length - fixed) / 90;
+    // What is left over goes into the last bank.
+    let left = (length - fixed - 90 * channels) / 2;
+
+    let made: Vec<Contact> = (0..contacts).map(|_| contact(rng)).collect();
+    let free = three(contacts);
+    let named: Vec<(u16, Mode)> = (0..contacts)
+        .filter(|n| !free.contains(n))
+        .map(|n| (n as u16, made[n].info.mode()))
+        .collect();
+
+    let mut file = b"RTXC\0\0\0\0\x01\0".to_vec();
+    file.extend(text(rng, 16));
+    file.extend(text(rng, 32));
+    file.extend(1_700_000_000u64.to_le_bytes());
+    for count in [contacts, channels, banks] {
+        file.extend((count as u16).to_le_bytes());
+    }
+    for contact in &made {
+        file.extend(sample::contact_bytes(contact));
+    }
+    for _ in 0..channels {
+        file.extend(sample::channel_bytes(&channel(rng, &named)));
+    }
+    let held = |n: usize| if n + 1 == banks { 24 + left } else { 24 };
+    let mut offset = 0;
+    for n in 0..banks {
+        file.extend((offset as u32).to_le_bytes());
+        offset += 34 + 2 * held(n);
+    }
+    let free = three(channels);
+    for n in 0..banks {
+        file.extend(text(rng, 16));
+        file.extend((held(n) as u16).to_le_bytes());
+        for _ in 0..held(n) {
+            let entry = loop {
+                let entry = rng.below(channels);
+                if !free.contains(&entry) {
+                    break entry as u16;
+                }
+            };
+            file.extend(entry.to_le_bytes());
+        }
+    }
+    assert_eq!(file.len(), length);
+    obcf_second::judge(&file).expect("a good file");
+    file
+}
+
+/// A text of 4 to `most` characters, with its padding.
+pub fn text(rng: &mut Rng, most: usize) -> Vec<u8> {
+    let mut field = name(rng, most);
+    field.resize(32, 0);
+    field
+}
+
+fn name(rng: &mut Rng, most: usize) -> Vec<u8> {
+    let length = 4 + rng.below(most - 3);
+    (0..length).map(|_| 0x20 + rng.below(0x5F) as u8).collect()
+}
+
+pub fn contact(rng: &mut Rng) -> Contact {
+    let mut made = sample::contact(rng);
+    made.name = name(rng, 16);
+    made
+}
+
+/// A channel of any of the three modes; three in four of DMR and M17 name a contact.
+pub fn channel(rng: &mut Rng, named: &[(u16, Mode)]) -> Channel {
+    let mut made = sample::channel(rng, |rng, mode| {
+        let fitting: Vec<u16> = named.iter().filter(|c| c.1 == mode).map(|c| c.0).collect();
+        (!fitting.is_empty() && !rng.one_in(4)).then(|| rng.pick(&fitting))
+    });
+    made.name = name(rng, 16);
+    made.description = name(rng, 32);
+    made
+}

@@ -1,0 +1,282 @@
+//! The twelve edits and undo, by a changed copy of the file.
+
+use super::history;
+use super::judge::judge;
+use super::layout::Layout;
+use obcf_second::edit::{Answer, Edit};
+use obcf_second::{Counts, Reason, Refusal};
+
+pub fn edit(
+    room: &mut [u8],
+    length: usize,
+    past: &mut [u8],
+    used: usize,
+    edit: &Edit,
+) -> Result<Answer, Refusal> {
+    let (file, counts, ends) = open(room, length, past, used)?;
+    let new = apply(file, counts, edit)?;
+    judge(&new)?;
+    refuse_unless(new.len() <= room.len(), Reason::RoomFull)?;
+    let entry = history::entry(file, &new);
+    refuse_unless(entry.len() <= past.len(), Reason::HistoryFull)?;
+    let kept = ends
+        .iter()
+        .take_while(|&&end| entry.len() + end <= past.len())
+        .count();
+    let old = if kept == 0 { 0 } else { ends[kept - 1] };
+
+    past.copy_within(..old, entry.len());
+    past[..entry.len()].copy_from_slice(&entry);
+    clear(past, entry.len() + old, used);
+    room[..new.len()].copy_from_slice(&new);
+    clear(room, new.len(), length);
+    Ok(Answer {
+        length: new.len(),
+        history_length: entry.len() + old,
+        entries: kept + 1,
+    })
+}
+
+pub fn undo(
+    room: &mut [u8],
+    length: usize,
+    past: &mut [u8],
+    used: usize,
+) -> Result<Answer, Refusal> {
+    let (file, _, ends) = open(room, length, past, used)?;
+    let top = *ends.first().ok_or(Refusal::from(Reason::HistoryEmpty))?;
+    let restored = taken_back(file, &past[..used])
+        .filter(|restored| restored.len() <= room.len() && judge(restored).is_ok())
+        .ok_or(Refusal::from(Reason::EntryDoesNotFit))?;
+
+    past.copy_within(top..used, 0);
+    clear(past, used - top, used);
+    room[..restored.len()].copy_from_slice(&restored);
+    clear(room, restored.len(), length);
+    Ok(Answer {
+        length: restored.len(),
+        history_length: used - top,
+        entries: ends.len() - 1,
+    })
+}
+
+fn refuse_unless(good: bool, reason: Reason) -> Result<(), Refusal> {
+    good.then_some(()).ok_or(reason.into())
+}
+
+/// Zeros from the new length up to the old.
+fn clear(buffer: &mut [u8], new: usize, old: usize) {
+    if new < old {
+        buffer[new..old].fill(0);
+    }
+}
+
+fn open<'a>(
+    room: &'a [u8],
+    length: usize,
+    past: &[u8],
+    used: usize,
+) -> Result<(&'a [u8], Counts, Vec<usize>), Refusal> {
+    let stated = Refusal::from(Reason::StatedLength);
+    let file = room.get(..length).ok_or(stated)?;
+    let past = past.get(..used).ok_or(stated)?;
+    let counts = judge(file)?;
+    Ok((file, counts, history::ends(past)?))
+}
+
+fn taken_back(file: &[u8], past: &[u8]) -> Option<Vec<u8>> {
+    let top = history::first(past)?;
+    let ending = file.get(top.start + top.new_length..)?;
+    Some([&file[..top.start], top.old, ending].concat())
+}
+
+/// The file with `new` in place of `gone` bytes at `at`.
+fn spliced(file: &[u8], at: usize, gone: usize, new: &[u8]) -> Vec<u8> {
+    [&file[..at], new, &file[at + gone..]].concat()
+}
+
+/// The file after an edit: 32, 33, 34, 35. The result is not judged.
+fn apply(file: &[u8], counts: Counts, edit: &Edit) -> Result<Vec<u8>, Refusal> {
+    let &Edit {
+        kind,
+        first,
+        second,
+        ref record,
+    } = edit;
+    let size = match kind {
+        1 | 3 => 39,
+        4 | 6 => 90,
+        7 | 9 => 32,
+        10 => 2,
+        12 => 72,
+        2 | 5 | 8 | 11 => 0,
+        _ => return Err(Reason::NoSuchEdit.into()),
+    };
+    refuse_unless(record.len() == size, Reason::NoSuchEdit)?;
+    let l = Layout::of(counts);
+    let places = match kind {
+        1..=3 => l.contacts + usize::from(kind == 1),
+        4..=6 => l.channels + usize::from(kind == 4),
+        7..=9 => l.banks + usize::from(kind == 7),
+        10 | 11 => l.banks,
+        _ => 1,
+    };
+    refuse_unless(first < places, Reason::NoSuchPlace)?;
+    if let 10 | 11 = kind {
+        return entry_edit(file, &l, edit);
+    }
+    refuse_unless(second == 0, Reason::NoSuchPlace)?;
+
+    let full = |count: usize| refuse_unless(count < 65_535, Reason::CountFull);
+    Ok(match kind {
+        1 => {
+            full(l.contacts)?;
+            let mut new = spliced(file, l.contact_at(first), 0, record);
+            add_at(&mut new, 82, 1);
+            contact_indexes(&mut new[l.channel_at(0) + 39..][..90 * l.channels], |n| {
+                n + u16::from(usize::from(n) >= first)
+            });
+            new
+        }
+        2 => {
+            let channels = &file[l.channel_at(0)..][..90 * l.channels];
+            refuse_unless(!names(channels, first as u16), Reason::InUse)?;
+            let mut new = spliced(file, l.contact_at(first), 39, &[]);
+            add_at(&mut new, 82, -1);
+            contact_indexes(&mut new[l.channel_at(0) - 39..][..90 * l.channels], |n| {
+                n - u16::from(usize::from(n) > first)
+            });
+            new
+        }
+        3 => spliced(file, l.contact_at(first), 39, record),
+        4 => {
+            full(l.channels)?;
+            let mut new = spliced(file, l.channel_at(first), 0, record);
+            add_at(&mut new, 84, 1);
+            entries(&mut new[l.bank_start() + 90..], |n| {
+                *n += u16::from(usize::from(*n) >= first)
+            });
+            new
+        }
+        5 => {
+            let mut new = spliced(file, l.channel_at(first), 90, &[]);
+            add_at(&mut new, 84, -1);
+            let mut held = false;
+            entries(&mut new[l.bank_start() - 90..], |n| {
+                held |= usize::from(*n) == first;
+                *n -= u16::from(usize::from(*n) > first);
+            });
+            refuse_unless(!held, Reason::InUse)?;
+            new
+        }
+        6 => spliced(file, l.channel_at(first), 90, record),
+        7 => {
+            full(l.banks)?;
+            let (at, table) = (l.bank_at(file, first), l.offset_at(first));
+            let offset = (at - l.bank_start()) as u32;
+            let bank = [record.as_slice(), &[0, 0]].concat();
+            let mut new = [
+                &file[..table],
+                &offset.to_le_bytes(),
+                &file[table..at],
+                &bank,
+                &file[at..],
+            ]
+            .concat();
+            add_at(&mut new, 86, 1);
+            offsets(&mut new[table + 4..][..4 * (l.banks - first)], 34);
+            new
+        }
+        8 => {
+            let (at, end, table) = (
+                l.bank_at(file, first),
+                l.bank_at(file, first + 1),
+                l.offset_at(first),
+            );
+            let mut new = [&file[..table], &file[table + 4..at], &file[end..]].concat();
+            add_at(&mut new, 86, -1);
+            offsets(
+                &mut new[table..][..4 * (l.banks - first - 1)],
+                -((end - at) as i32),
+            );
+            new
+        }
+        9 => spliced(file, l.bank_at(file, first), 32, record),
+        _ => spliced(file, 10, 72, record),
+    })
+}
+
+/// Edits 10 and 11.
+fn entry_edit(file: &[u8], l: &Layout, edit: &Edit) -> Result<Vec<u8>, Refusal> {
+    let bank = l.bank_at(file, edit.first);
+    let count = usize::from(u16::from_le_bytes([file[bank + 32], file[bank + 33]]));
+    let inserts = edit.kind == 10;
+    refuse_unless(
+        edit.second < count + usize::from(inserts),
+        Reason::NoSuchPlace,
+    )?;
+    refuse_unless(!inserts || count < 65_535, Reason::CountFull)?;
+    let (gone, by) = if inserts { (0, 1) } else { (2, -1) };
+    let mut new = spliced(file, bank + 34 + 2 * edit.second, gone, &edit.record);
+    add_at(&mut new, bank + 32, by);
+    let later = l.offset_at(edit.first + 1)..l.offset_at(l.banks);
+    offsets(&mut new[later], 2 * i32::from(by));
+    Ok(new)
+}
+
+fn add_at(bytes: &mut [u8], at: usize, by: i16) {
+    let count = u16::from_le_bytes([bytes[at], bytes[at + 1]]).wrapping_add_signed(by);
+    bytes[at..at + 2].copy_from_slice(&count.to_le_bytes());
+}
+
+fn index_at(channel: &[u8; 90]) -> Option<usize> {
+    match channel[0] {
+        1 => Some(87),
+        2 => Some(88),
+        _ => None,
+    }
+}
+
+/// Whether a channel names the contact.
+fn names(channels: &[u8], contact: u16) -> bool {
+    let channels = channels.as_chunks::<90>().0.iter();
+    let contact = contact.to_le_bytes();
+    contact != [255; 2]
+        && channels
+            .filter_map(|c| index_at(c).map(|at| [c[at], c[at + 1]]))
+            .any(|index| index == contact)
+}
+
+/// Changes every contact index but 65,535.
+fn contact_indexes(channels: &mut [u8], change: impl Fn(u16) -> u16) {
+    for channel in channels.as_chunks_mut::<90>().0 {
+        if let Some(at) = index_at(channel) {
+            let n = u16::from_le_bytes([channel[at], channel[at + 1]]);
+            if n != 65_535 {
+                channel[at..at + 2].copy_from_slice(&change(n).to_le_bytes());
+            }
+        }
+    }
+}
+
+/// Changes every bank entry.
+fn entries(mut banks: &mut [u8], mut change: impl FnMut(&mut u16)) {
+    while !banks.is_empty() {
+        let count = usize::from(u16::from_le_bytes([banks[32], banks[33]]));
+        let (bank, rest) = banks.split_at_mut(34 + 2 * count);
+        for entry in bank[34..].as_chunks_mut::<2>().0 {
+            let mut n = u16::from_le_bytes(*entry);
+            change(&mut n);
+            *entry = n.to_le_bytes();
+        }
+        banks = rest;
+    }
+}
+
+fn offsets(table: &mut [u8], by: i32) {
+    for offset in table.as_chunks_mut::<4>().0 {
+        *offset = u32::from_le_bytes(*offset)
+            .wrapping_add_signed(by)
+            .to_le_bytes();
+    }
+}

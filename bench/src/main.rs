@@ -1,0 +1,29 @@
+//! Times the proved library, through its C interface, beside plain Rust: the second program, and a leaner path.
+
+mod batch;
+mod cases;
+mod ffi;
+mod files;
+mod heap;
+mod lean;
+mod makers;
+mod plot;
+mod profile;
+mod table;
+#[cfg(test)]
+mod tests;
+mod timing;
+mod work;
+
+fn main() {
+    heap::keep();
+    let words: Vec<String> = std::env::args().skip(1).collect();
+    let words: Vec<&str> = words.iter().map(String::as_str).collect();
+    let number = |word: &str| word.parse().expect("a number");
+    match words[..] {
+        [] => table::print(),
+        ["plot", path] => plot::write(path),
+        ["profile", maker, what, kind, times] => profile::run(maker, what, number(kind), number(times)),
+        _ => eprintln!("usage: bench/run [plot FILE.svg | profile proved|second|lean judge|read|edit|undo KIND TIMES]"),
+    }
+}

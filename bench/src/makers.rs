@@ -1,0 +1,139 @@
+//! The three that are timed, behind one face.
+
+use crate::ffi;
+use crate::lean;
+use obcf_second::edit::{Answer, Edit};
+use obcf_second::Refusal;
+
+#[derive(Clone, Copy, PartialEq, Eq)]
+pub enum Maker {
+    /// The proved library, through the C interface.
+    Proved,
+    /// The second program as it stands.
+    Second,
+    /// Plain Rust written for speed (lean/).
+    Lean,
+}
+
+pub const MAKERS: [Maker; 3] = [Maker::Proved, Maker::Second, Maker::Lean];
+
+/// A file or a history in a buffer with spare bytes.
+#[derive(Clone, PartialEq, Eq)]
+pub struct Buffer {
+    pub bytes: Vec<u8>,
+    pub length: usize,
+}
+
+impl Buffer {
+    pub fn new(bytes: &[u8], size: usize) -> Buffer {
+        let mut buffer = Buffer {
+            bytes: bytes.to_vec(),
+            length: bytes.len(),
+        };
+        buffer.bytes.resize(size, 0xA5);
+        buffer
+    }
+
+    /// Takes over another buffer of the same size whole.
+    pub fn take(&mut self, other: &Buffer) {
+        self.bytes.copy_from_slice(&other.bytes);
+        self.length = other.length;
+    }
+}
+
+/// The room and the history that a call is lent.
+#[derive(Clone, PartialEq, Eq)]
+pub struct Set {
+    pub room: Buffer,
+    pub past: Buffer,
+}
+
+impl Set {
+    pub fn file(&self) -> &[u8] {
+        &self.room.bytes[..self.room.length]
+    }
+
+    /// Takes an answer's lengths over.
+    pub fn grown(&mut self, answer: &Answer) {
+        self.room.length = answer.length;
+        self.past.length = answer.history_length;
+    }
+}
+
+fn answer(a: ffi::CallAnswer) -> Result<Answer, Refusal> {
+    match a.number {
+        0 => Ok(Answer {
+            length: a.length,
+            history_length: a.used,
+            entries: a.entries,
+        }),
+        number => Err(Refusal {
+            number,
+            place: a.place,
+        }),
+    }
+}
+
+impl Maker {
+    pub fn edit(self, set: &mut Set, edit: &Edit) -> Result<Answer, Refusal> {
+        let (length, used) = (set.room.length, set.past.length);
+        let (room, past) = (&mut set.room.bytes, &mut set.past.bytes);
+        match self {
+            // Both buffers are lent whole, with their sizes.
+            Maker::Proved => answer(unsafe {
+                ffi::codeplug_edit(
+                    room.as_mut_ptr(),
+                    room.len(),
+                    length,
+                    past.as_mut_ptr(),
+                    past.len(),
+                    used,
+                    edit.kind as usize,
+                    edit.first,
+                    edit.second,
+                    edit.record.as_ptr(),
+                    edit.record.len(),
+                )
+            }),
+            Maker::Second => obcf_second::edit::edit(room, length, past, used, edit),
+            Maker::Lean => lean::edit::edit(room, length, past, used, edit),
+        }
+    }
+
+    pub fn undo(self, set: &mut Set) -> Result<Answer, Refusal> {
+        let (length, used) = (set.room.length, set.past.length);
+        let (room, past) = (&mut set.room.bytes, &mut set.past.bytes);
+        match self {
+            Maker::Proved => answer(unsafe {
+                ffi::codeplug_undo(
+                    room.as_mut_ptr(),
+                    room.len(),
+                    length,
+                    past.as_mut_ptr(),
+                    past.len(),
+                    used,
+                )
+            }),
+            Maker::Second => obcf_second::edit::undo(room, length, past, used),
+            Maker::Lean => lean::edit::undo(room, length, past, used),
+        }
+    }
+
+    pub fn judge(self, file: &[u8]) -> Result<[u16; 3], Refusal> {
+        let counts = match self {
+            Maker::Proved => {
+                let a = unsafe { ffi::codeplug_judge(file.as_ptr(), file.len()) };
+                return match a.number {
+                    0 => Ok([a.contacts, a.channels, a.banks]),
+                    number => Err(Refusal {
+                        number,
+                        place: a.place,
+                    }),
+                };
+            }
+            Maker::Second => obcf_second::judge(file)?,
+            Maker::Lean => lean::judge::judge(file)?,
+        };
+        Ok([counts.contacts, counts.channels, counts.banks])
+    }
+}

@@ -1,0 +1,37 @@
+//! One case again and again by one of the three, for a profiler.
+
+use crate::batch::Batch;
+use crate::makers::Maker;
+use crate::timing::Timed;
+use crate::work::{Calling, Judging, Reading};
+
+const SIZE: usize = 1 << 20;
+
+/// `judge`, `read`, `edit KIND` or `undo KIND` (in the middle of its list), by `proved`, `second` or `lean`.
+pub fn run(maker: &str, what: &str, kind: usize, times: usize) {
+    let maker = match maker {
+        "proved" => Maker::Proved,
+        "second" => Maker::Second,
+        _ => Maker::Lean,
+    };
+    let batch = Batch::whole(SIZE);
+    let sets = batch.sets.as_slice();
+    let cases = batch.cases();
+    let case = cases
+        .iter()
+        .find(|(case, _)| case.middle && case.edit.kind == kind as u64);
+    let edits = case.map(|(_, edits)| edits.as_slice()).unwrap_or_default();
+    match what {
+        "judge" => repeat(times, Judging { maker, sets }),
+        "read" => repeat(times, Reading { maker, sets }),
+        "edit" => repeat(times, Calling::new(maker, sets, Some(edits))),
+        _ => repeat(times, Calling::new(maker, &batch.edited(edits).sets, None)),
+    }
+}
+
+fn repeat(times: usize, mut timed: impl Timed) {
+    for _ in 0..times {
+        timed.ready();
+        timed.call();
+    }
+}

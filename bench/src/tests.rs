@@ -1,0 +1,95 @@
+//! The lean path and the C interface's numbers agree with the second program.
+
+use crate::makers::{Buffer, Set, MAKERS};
+use obcf_second::edit::Edit;
+use obcf_second::sample::{self, Limits, Rng, Shape};
+
+const SHAPE: Shape = Shape {
+    contacts: 6,
+    channels: 6,
+    banks: 4,
+    entries: 6,
+};
+
+#[test]
+fn judging_agrees() {
+    let rng = &mut Rng::new(1);
+    for _ in 0..20_000 {
+        let mut file = sample::file(rng, SHAPE);
+        let spans = sample::file_spans(&file);
+        let limits = Limits::of_file(&file);
+        for _ in 0..rng.below(3) {
+            let span = rng.pick(&spans);
+            sample::spoil(rng, &mut file, span, limits);
+        }
+        if rng.one_in(8) {
+            file.truncate(rng.below(file.len() + 1));
+        }
+        let [a, b, c] = MAKERS.map(|maker| maker.judge(&file));
+        assert!(a == b && b == c, "{a:?} {b:?} {c:?}");
+    }
+}
+
+#[test]
+fn calls_agree() {
+    let rng = &mut Rng::new(2);
+    let mut accepted = 0;
+    for _ in 0..3_000 {
+        let file = sample::file(rng, SHAPE);
+        let room_size = file.len() + rng.below(300);
+        let mut set = Set {
+            room: Buffer::new(&file, room_size),
+            past: Buffer::new(&[], rng.below(600)),
+        };
+        for _ in 0..12 {
+            let edit = some_edit(rng);
+            let undoes = rng.one_in(4);
+            let [a, b, c] = MAKERS.map(|maker| {
+                let mut set = set.clone();
+                let answer = match undoes {
+                    true => maker.undo(&mut set),
+                    false => maker.edit(&mut set, &edit),
+                };
+                if let Ok(answer) = &answer {
+                    set.grown(answer);
+                }
+                (answer, set)
+            });
+            assert!(a == b, "{edit:?} {undoes} {:?} {:?}", a.0, b.0);
+            assert!(b == c, "{edit:?} {undoes} {:?} {:?}", b.0, c.0);
+            accepted += usize::from(a.0.is_ok());
+            set = a.1;
+        }
+    }
+    assert!(accepted > 10_000, "{accepted}");
+}
+
+fn some_edit(rng: &mut Rng) -> Edit {
+    let kind = 1 + rng.below(12);
+    let record = match kind {
+        1 | 3 => sample::contact_bytes(&sample::contact(rng)),
+        4 | 6 => sample::channel_bytes(&sample::channel(rng, |rng, _| {
+            rng.one_in(3).then(|| rng.below(4) as u16)
+        })),
+        7 | 9 => sample::padded_text(rng),
+        10 => vec![rng.below(6) as u8, 0],
+        12 => [
+            sample::padded_text(rng),
+            sample::padded_text(rng),
+            rng.bytes(8),
+        ]
+        .concat(),
+        _ => Vec::new(),
+    };
+    let second = if matches!(kind, 10 | 11) {
+        rng.below(6)
+    } else {
+        0
+    };
+    Edit {
+        kind: kind as u64,
+        first: if kind == 12 { 0 } else { rng.below(6) },
+        second,
+        record,
+    }
+}

@@ -1,0 +1,170 @@
+//! What is timed, for each of the three: one call takes each file of a batch in turn.
+
+use crate::ffi;
+use crate::lean;
+use crate::makers::{Maker, Set};
+use crate::timing::Timed;
+use obcf_second::address::{number_to_text, text_to_number};
+use obcf_second::edit::Edit;
+use obcf_second::Codeplug;
+use std::hint::black_box;
+
+pub struct Judging<'a> {
+    pub maker: Maker,
+    pub sets: &'a [Set],
+}
+
+impl Timed for Judging<'_> {
+    fn call(&mut self) {
+        for set in self.sets {
+            black_box(self.maker.judge(black_box(set.file()))).expect("accepted");
+        }
+    }
+}
+
+/// The proved library judges; the others read the file into lists.
+pub struct Listing<'a> {
+    pub maker: Maker,
+    pub sets: &'a [Set],
+}
+
+impl Timed for Listing<'_> {
+    fn call(&mut self) {
+        for set in self.sets {
+            let file = black_box(set.file());
+            match self.maker {
+                Maker::Proved => {
+                    black_box(self.maker.judge(file)).expect("accepted");
+                }
+                Maker::Second => drop(black_box(Codeplug::read(file)).expect("accepted")),
+                Maker::Lean => drop(black_box(lean::read::lists(file)).expect("accepted")),
+            }
+        }
+    }
+}
+
+/// Judges, then reads every contact, channel, bank and entry.
+pub struct Reading<'a> {
+    pub maker: Maker,
+    pub sets: &'a [Set],
+}
+
+impl Timed for Reading<'_> {
+    fn call(&mut self) {
+        for set in self.sets {
+            let file = black_box(set.file());
+            match self.maker {
+                Maker::Proved => read_proved(file),
+                Maker::Second => drop(black_box(Codeplug::read(file)).expect("accepted")),
+                Maker::Lean => lean::read::read_all(file).expect("accepted"),
+            }
+        }
+    }
+}
+
+fn read_proved(file: &[u8]) {
+    let (at, length) = (file.as_ptr(), file.len());
+    let mut texts = [0; 64];
+    let into = texts.as_mut_ptr();
+    // Pointers and lengths are those of `file` and `texts`.
+    unsafe {
+        let counts = ffi::codeplug_judge(at, length);
+        assert_eq!(counts.number, 0);
+        for n in 0..usize::from(counts.contacts) {
+            black_box(&ffi::codeplug_contact_once(at, length, n, into, 32));
+        }
+        for n in 0..usize::from(counts.channels) {
+            black_box(&ffi::codeplug_channel_once(at, length, n, into, 64));
+        }
+        for n in 0..usize::from(counts.banks) {
+            let bank = ffi::codeplug_bank_once(at, length, n, into, 32);
+            for i in 0..usize::from(bank.entries) {
+                black_box(&ffi::codeplug_bank_entry_once(at, length, n, i));
+            }
+        }
+    }
+}
+
+/// An edit of each file, or an undo where there is none, on fresh copies of both buffers.
+pub struct Calling<'a> {
+    maker: Maker,
+    sets: &'a [Set],
+    edits: Option<&'a [Edit]>,
+    copies: Vec<Set>,
+}
+
+impl<'a> Calling<'a> {
+    pub fn new(maker: Maker, sets: &'a [Set], edits: Option<&'a [Edit]>) -> Self {
+        Calling {
+            maker,
+            sets,
+            edits,
+            copies: sets.to_vec(),
+        }
+    }
+}
+
+impl Timed for Calling<'_> {
+    fn ready(&mut self) {
+        for (copy, set) in self.copies.iter_mut().zip(self.sets) {
+            copy.past.take(&set.past);
+            copy.room.take(&set.room);
+        }
+    }
+
+    fn call(&mut self) {
+        for (n, copy) in self.copies.iter_mut().enumerate() {
+            let answer = match self.edits {
+                Some(edits) => self.maker.edit(copy, black_box(&edits[n])),
+                None => self.maker.undo(copy),
+            };
+            black_box(answer).expect("accepted");
+        }
+    }
+}
+
+/// Callsigns to numbers.
+pub struct Encoding<'a> {
+    pub maker: Maker,
+    pub texts: &'a [Vec<u8>],
+}
+
+impl Timed for Encoding<'_> {
+    fn call(&mut self) {
+        for text in self.texts {
+            let text = black_box(text.as_slice());
+            match self.maker {
+                Maker::Proved => {
+                    black_box(&unsafe { ffi::codeplug_encode_callsign(text.as_ptr(), text.len()) });
+                }
+                Maker::Second => drop(black_box(text_to_number(text))),
+                Maker::Lean => drop(black_box(lean::address::encode(text))),
+            }
+        }
+    }
+}
+
+/// Numbers to callsigns.
+pub struct Decoding<'a> {
+    pub maker: Maker,
+    pub numbers: &'a [u64],
+}
+
+impl Timed for Decoding<'_> {
+    fn call(&mut self) {
+        let mut text = [0; 9];
+        for &number in self.numbers {
+            let number = black_box(number);
+            match self.maker {
+                Maker::Proved => {
+                    black_box(&unsafe {
+                        ffi::codeplug_decode_address(number, text.as_mut_ptr(), 9)
+                    });
+                }
+                // The second program's way is short already.
+                _ => drop(black_box(number_to_text(number, &mut text))),
+            }
+            black_box(&text);
+        }
+    }
+}

@@ -1,0 +1,147 @@
+//! Compares the proved library, called through its C interface, with the
+//! second program: every answer, and every lent buffer whole.
+//!
+//!     compare short               a fixed number of cases from fixed seeds
+//!     compare long SEED MINUTES   rounds of new seeds, for so long
+//!     compare case PART SEED      one seed of a part again
+
+mod addresses;
+mod calls;
+mod expected;
+mod fence;
+mod files;
+mod interface;
+mod large;
+mod parts;
+mod reading;
+mod records;
+mod report;
+mod stopped;
+mod work;
+
+use std::process::ExitCode;
+use std::time::{Duration, Instant};
+
+use obcf_second::sample::Rng;
+
+use parts::{Part, PARTS};
+use report::Tally;
+use work::Work;
+
+/// The short run's seed.
+const SHORT: u64 = 1;
+
+fn main() -> ExitCode {
+    let arguments: Vec<String> = std::env::args().skip(1).collect();
+    let arguments: Vec<&str> = arguments.iter().map(String::as_str).collect();
+    stopped::watch();
+    let good = match arguments[..] {
+        ["short"] => Some(short()),
+        ["long", seed, minutes] => match (seed.parse(), minutes.parse()) {
+            (Ok(seed), Ok(minutes)) => Some(long(seed, minutes)),
+            _ => None,
+        },
+        ["case", name, seed] => match (PARTS.iter().find(|part| part.name == name), seed.parse()) {
+            (Some(part), Ok(seed)) => Some(one(&mut Work::new(), part, seed)),
+            _ => None,
+        },
+        _ => None,
+    };
+    match good {
+        Some(true) => ExitCode::SUCCESS,
+        Some(false) => ExitCode::FAILURE,
+        None => {
+            eprintln!("usage: compare short | long SEED MINUTES | case PART SEED");
+            ExitCode::from(2)
+        }
+    }
+}
+
+/// One seed of a part; a difference is printed.
+fn one(work: &mut Work, part: &Part, seed: u64) -> bool {
+    stopped::at(part.name, seed);
+    match (part.run)(work, &mut Rng::new(seed)) {
+        Ok(()) => true,
+        Err(difference) => {
+            eprintln!("{difference}\nagain: compare/run case {} {seed}", part.name);
+            false
+        }
+    }
+}
+
+/// A part's seeds in a run or round.
+fn seeds_of(run: u64, part: usize) -> Rng {
+    Rng::new(Rng::new(run).number() ^ part as u64)
+}
+
+fn line(name: &str, seeds: u64, tally: &Tally, time: Duration) {
+    let refusals: Vec<String> = tally.refusals().iter().map(u8::to_string).collect();
+    println!(
+        "{name}: {} cases alike, {} of them good, from {seeds} seeds in {:.1} s; refusals met: {}",
+        tally.cases(),
+        tally.good(),
+        time.as_secs_f64(),
+        if refusals.is_empty() {
+            "none".to_string()
+        } else {
+            refusals.join(" ")
+        },
+    );
+}
+
+fn short() -> bool {
+    let mut work = Work::new();
+    let mut cases = 0;
+    for (n, part) in PARTS.iter().enumerate() {
+        let start = Instant::now();
+        let mut seeds = seeds_of(SHORT, n);
+        work.tally = Tally::new();
+        for _ in 0..part.seeds {
+            if !one(&mut work, part, seeds.number()) {
+                return false;
+            }
+        }
+        line(part.name, part.seeds, &work.tally, start.elapsed());
+        let met = work.tally.refusals();
+        if let Some(number) = part.meets.iter().find(|number| !met.contains(number)) {
+            eprintln!("{}: refusal {number} was not met", part.name);
+            return false;
+        }
+        cases += work.tally.cases();
+    }
+    println!("{cases} cases, no difference");
+    true
+}
+
+fn long(seed: u64, minutes: u64) -> bool {
+    let start = Instant::now();
+    let limit = Duration::from_secs(60 * minutes);
+    let mut work = Work::new();
+    let mut told: Vec<(u64, Tally, Duration)> = PARTS.iter().map(|_| (0, Tally::new(), Duration::ZERO)).collect();
+    println!("seed {seed}, {minutes} minutes");
+    let mut round = seed;
+    while start.elapsed() < limit {
+        for (n, part) in PARTS.iter().enumerate() {
+            let began = Instant::now();
+            let mut seeds = seeds_of(round, n);
+            let (count, tally, time) = &mut told[n];
+            std::mem::swap(&mut work.tally, tally);
+            for _ in 0..part.round {
+                if !one(&mut work, part, seeds.number()) {
+                    return false;
+                }
+            }
+            std::mem::swap(&mut work.tally, tally);
+            *count += part.round;
+            *time += began.elapsed();
+        }
+        round = round.wrapping_add(1);
+    }
+    let mut cases = 0;
+    for (part, (count, tally, time)) in PARTS.iter().zip(&told).filter(|(part, _)| part.round > 0) {
+        line(part.name, *count, tally, *time);
+        cases += tally.cases();
+    }
+    println!("{cases} cases in {} rounds, no difference", round.wrapping_sub(seed));
+    true
+}

@@ -1,0 +1,91 @@
+//! The parts of a run, and how many seeds each has.
+
+use obcf_second::sample::Rng;
+
+use crate::report::Compared;
+use crate::work::Work;
+use crate::{addresses, calls, files, large, records};
+
+/// A part makes its cases from a seed and compares them.
+pub struct Part {
+    pub name: &'static str,
+    pub run: fn(&mut Work, &mut Rng) -> Compared,
+    /// How many seeds a short run has, and a round of a long one.
+    pub seeds: u64,
+    pub round: u64,
+    /// The refusals that a short run must meet.
+    pub meets: &'static [u8],
+}
+
+pub const PARTS: [Part; 10] = [
+    Part {
+        name: "files",
+        run: files::any,
+        seeds: 200_000,
+        round: 5_000,
+        meets: &[2, 3, 4, 5, 6, 7, 8, 9, 10, 11, 12, 25, 33],
+    },
+    Part {
+        name: "damaged",
+        run: files::damaged,
+        seeds: 15_000,
+        round: 500,
+        meets: &[2, 3, 4, 5, 6, 7, 8, 9, 10, 11, 12],
+    },
+    Part {
+        name: "cut",
+        run: files::cut,
+        seeds: 15_000,
+        round: 500,
+        meets: &[2, 12],
+    },
+    Part {
+        name: "contacts",
+        run: records::contact,
+        seeds: 3_000_000,
+        round: 50_000,
+        meets: &[5, 6, 7, 8, 25],
+    },
+    Part {
+        name: "channels",
+        run: records::channel,
+        seeds: 3_000_000,
+        round: 50_000,
+        meets: &[5, 6, 7, 25],
+    },
+    Part {
+        name: "addresses",
+        run: addresses::any,
+        seeds: 3_000_000,
+        round: 50_000,
+        meets: &[20, 21, 22, 23, 24],
+    },
+    Part {
+        name: "short-texts",
+        run: addresses::every_short,
+        seeds: 1,
+        round: 0,
+        meets: &[20, 21, 22, 23],
+    },
+    Part {
+        name: "tones",
+        run: addresses::tones,
+        seeds: 1,
+        round: 0,
+        meets: &[],
+    },
+    Part {
+        name: "calls",
+        run: calls::list,
+        seeds: 180_000,
+        round: 5_000,
+        meets: &[2, 3, 4, 5, 6, 7, 8, 9, 10, 11, 12, 30, 31, 32, 33, 35, 36, 37, 38, 39],
+    },
+    Part {
+        name: "large",
+        run: large::either,
+        seeds: 200,
+        round: 6,
+        meets: &[1, 34, 36, 37],
+    },
+];

@@ -1,0 +1,173 @@
+/* Target: the same input to the library and to the second program; every answer and every whole buffer has to be the same. The input is a
+ * byte that says what is compared, then a file, an opening and calls, a record's numbers, or an address. */
+#include "blocks.h"
+#include "lend.h"
+#include "must.h"
+#include "plan.h"
+#include "record.h"
+#include "same.h"
+#include "second.h"
+
+enum { OTHER_SIZE = LEND_MOST, HISTORY_MOST = 1 << 15 };
+
+static bool at_start;
+static uint8_t other[OTHER_SIZE], other_history[HISTORY_MOST]; /* the second program's buffers */
+
+/* Lends a buffer to the library, and the same bytes to the second program. */
+static uint8_t *both(size_t size)
+{
+    memset(other, 0xEE, size);
+    return lend(SLOT_TEXT, at_start, NULL, size);
+}
+
+static void buffers_agree(const uint8_t *ours, size_t size)
+{
+    must(memcmp(ours, other, size) == 0);
+    lend_check(SLOT_TEXT);
+}
+
+static void record_n(const uint8_t *file, size_t length, size_t n, size_t size)
+{
+    uint8_t *texts = both(size);
+    must(same_contact(codeplug_contact(file, length, n, texts, size), second_contact(file, length, n, other, size)));
+    buffers_agree(texts, size);
+    must(same_channel(codeplug_channel(file, length, n, texts, size), second_channel(file, length, n, other, size)));
+    buffers_agree(texts, size);
+    must(same_bank(codeplug_bank(file, length, n, texts, size), second_bank(file, length, n, other, size)));
+    buffers_agree(texts, size);
+    for (size_t i = 0; i < 3; i++)
+        must(same_entry(codeplug_bank_entry(file, length, n, i), second_bank_entry(file, length, n, i)));
+}
+
+/* The same by the readers that do not judge the file. */
+static void once_n(const uint8_t *file, size_t length, size_t n, size_t size)
+{
+    uint8_t *texts = both(size);
+    must(same_contact(codeplug_contact_once(file, length, n, texts, size), second_contact_once(file, length, n, other, size)));
+    buffers_agree(texts, size);
+    must(same_channel(codeplug_channel_once(file, length, n, texts, size), second_channel_once(file, length, n, other, size)));
+    buffers_agree(texts, size);
+    must(same_bank(codeplug_bank_once(file, length, n, texts, size), second_bank_once(file, length, n, other, size)));
+    buffers_agree(texts, size);
+    for (size_t i = 0; i < 3; i++)
+        must(same_entry(codeplug_bank_entry_once(file, length, n, i), second_bank_entry_once(file, length, n, i)));
+    must(same_entry(codeplug_bank_entry_once(file, length, n, SIZE_MAX), second_bank_entry_once(file, length, n, SIZE_MAX)));
+}
+
+static void files(struct input in)
+{
+    size_t size = take_byte(&in) % (CODEPLUG_TEXTS_SIZE + 4u), n = take_place(&in);
+    const uint8_t *file = lend(SLOT_FILE, at_start, in.at, in.left);
+    struct codeplug_judge_answer a = codeplug_judge(file, in.left);
+    must(same_judge(a, second_judge(file, in.left)));
+    uint8_t *texts = both(size);
+    must(same_header(codeplug_header(file, in.left, texts, size), second_header(file, in.left, other, size)));
+    buffers_agree(texts, size);
+    for (size_t i = 0; i < 3; i++) {
+        record_n(file, in.left, i, size);
+        once_n(file, in.left, i, size);
+    }
+    record_n(file, in.left, n, size);
+    once_n(file, in.left, n, size);
+    must(in.left == 0 || memcmp(file, in.at, in.left) == 0);
+}
+
+static struct codeplug_call_answer call(const struct opening *o, const struct call *c, uint8_t *room, uint8_t *history)
+{
+    if (c->undo)
+        return codeplug_undo(room, o->room_size, c->length, history, o->history_size, c->used);
+    const uint8_t *record = lend(SLOT_RECORD, at_start, c->record, c->record_length);
+    return codeplug_edit(room, o->room_size, c->length, history, o->history_size, c->used, c->kind, c->first, c->second, record,
+        c->record_length);
+}
+
+static struct codeplug_call_answer second_call(const struct opening *o, const struct call *c)
+{
+    if (c->undo)
+        return second_undo(other, o->room_size, c->length, other_history, o->history_size, c->used);
+    return second_edit(other, o->room_size, c->length, other_history, o->history_size, c->used, c->kind, c->first, c->second, c->record,
+        c->record_length);
+}
+
+static void calls(struct input in)
+{
+    struct opening o = plan_opening(&in);
+    must(o.room_size <= OTHER_SIZE && o.history_size <= HISTORY_MOST);
+    uint8_t *room = lend(SLOT_FILE, at_start, NULL, o.room_size), *history = lend(SLOT_HISTORY, at_start, NULL, o.history_size);
+    memcpy(room, o.file, o.file_length);
+    memcpy(history, o.entries, o.entries_length);
+    memcpy(other, room, o.room_size);
+    memcpy(other_history, history, o.history_size);
+    struct list list = {.in = in};
+    size_t length = o.file_length, used = o.entries_length;
+    while (plan_next(&list, room, length, used)) {
+        struct codeplug_call_answer a = call(&o, &list.call, room, history);
+        must(same_call(a, second_call(&o, &list.call)));
+        must(memcmp(room, other, o.room_size) == 0 && memcmp(history, other_history, o.history_size) == 0);
+        lend_check(SLOT_FILE);
+        lend_check(SLOT_HISTORY);
+        if (a.number == CODEPLUG_GOOD) {
+            length = a.length;
+            used = a.used;
+        }
+    }
+}
+
+static void contact(struct input in)
+{
+    size_t size = take_byte(&in) % 48u, length;
+    struct codeplug_contact_values values = take_contact(&in, true);
+    const uint8_t *from = take_some(&in, 48, &length), *name = lend(SLOT_OTHER, at_start, from, length);
+    uint8_t *out = both(size);
+    must(same_refused(codeplug_write_contact(out, size, name, length, values), second_write_contact(other, size, name, length, values)));
+    buffers_agree(out, size);
+}
+
+static void channel(struct input in)
+{
+    size_t size = take_byte(&in) % 100u, name_length = take_byte(&in) % 40u, length;
+    bool wild = take_byte(&in) & 1;
+    struct codeplug_channel_common common = take_common(&in, wild);
+    struct codeplug_channel_info info = take_info(&in, !wild);
+    const uint8_t *from = take_some(&in, name_length, &name_length), *name = lend(SLOT_OTHER, at_start, from, name_length);
+    from = take_some(&in, 40, &length);
+    const uint8_t *description = lend(SLOT_RECORD, at_start, from, length);
+    uint8_t *out = both(size);
+    must(same_refused(codeplug_write_channel(out, size, name, name_length, description, length, common, info),
+        second_write_channel(other, size, name, name_length, description, length, common, info)));
+    buffers_agree(out, size);
+}
+
+static void address(struct input in)
+{
+    size_t size = take_byte(&in) % 16u;
+    uint64_t number = take_number(&in, 8);
+    const uint8_t *text = lend(SLOT_OTHER, at_start, in.at, in.left);
+    uint8_t *out = both(size);
+    must(same_decode(codeplug_decode_address(number, out, size), second_decode_address(number, other, size)));
+    buffers_agree(out, size);
+    must(same_encode(codeplug_encode_callsign(text, in.left), second_encode_callsign(text, in.left)));
+    must(codeplug_tone_frequency((uint8_t)size) == second_tone_frequency((uint8_t)size));
+    must(codeplug_tone_frequency((uint8_t)number) == second_tone_frequency((uint8_t)number));
+    must(codeplug_tone_index((uint16_t)number) == second_tone_index((uint16_t)number));
+}
+
+int LLVMFuzzerInitialize(int *argc, char ***argv)
+{
+    (void)argc, (void)argv;
+    blocks_watch();
+    return 0;
+}
+
+int LLVMFuzzerTestOneInput(const uint8_t *data, size_t size)
+{
+    static void (*const what[])(struct input) = {files, calls, contact, channel, address};
+    struct input in = {data, size};
+    uint8_t how = take_byte(&in);
+    if (size > LEND_MOST)
+        return 0;
+    blocks_again();
+    at_start = how >= 128;
+    what[how % 128 % 5](in);
+    return 0;
+}
