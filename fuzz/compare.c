@@ -1,6 +1,7 @@
 /* Target: the same input to the library and to the second program; every answer and every whole buffer has to be the same. The input is a
  * byte that says what is compared, then a file, an opening and calls, a record's numbers, or an address. */
 #include "blocks.h"
+#include "good_file.h"
 #include "lend.h"
 #include "must.h"
 #include "plan.h"
@@ -54,22 +55,38 @@ static void once_n(const uint8_t *file, size_t length, size_t n, size_t size)
     must(same_entry(codeplug_bank_entry_once(file, length, n, SIZE_MAX), second_bank_entry_once(file, length, n, SIZE_MAX)));
 }
 
+static void a_file(const uint8_t *bytes, size_t length, size_t size, size_t n)
+{
+    const uint8_t *file = lend(SLOT_FILE, at_start, bytes, length);
+    must(same_judge(codeplug_judge(file, length), second_judge(file, length)));
+    uint8_t *texts = both(size);
+    must(same_header(codeplug_header(file, length, texts, size), second_header(file, length, other, size)));
+    buffers_agree(texts, size);
+    for (size_t i = 0; i < 3; i++) {
+        record_n(file, length, i, size);
+        once_n(file, length, i, size);
+    }
+    record_n(file, length, n, size);
+    once_n(file, length, n, size);
+    must(length == 0 || memcmp(file, bytes, length) == 0);
+}
+
 static void files(struct input in)
 {
     size_t size = take_byte(&in) % (CODEPLUG_TEXTS_SIZE + 4u), n = take_place(&in);
-    const uint8_t *file = lend(SLOT_FILE, at_start, in.at, in.left);
-    struct codeplug_judge_answer a = codeplug_judge(file, in.left);
-    must(same_judge(a, second_judge(file, in.left)));
-    uint8_t *texts = both(size);
-    must(same_header(codeplug_header(file, in.left, texts, size), second_header(file, in.left, other, size)));
-    buffers_agree(texts, size);
-    for (size_t i = 0; i < 3; i++) {
-        record_n(file, in.left, i, size);
-        once_n(file, in.left, i, size);
+    a_file(in.at, in.left, size, n);
+}
+
+/* A good file of chosen counts, with a few bytes changed. */
+static void made_files(struct input in)
+{
+    static uint8_t made[GOOD_FILE_MOST];
+    size_t n = take_place(&in), length = take_good_file(&in, made);
+    for (int i = 0; i < 4 && in.left > 0; i++) {
+        size_t at = take_number(&in, 2) % length;
+        made[at] = take_byte(&in);
     }
-    record_n(file, in.left, n, size);
-    once_n(file, in.left, n, size);
-    must(in.left == 0 || memcmp(file, in.at, in.left) == 0);
+    a_file(made, length, CODEPLUG_TEXTS_SIZE, n);
 }
 
 static struct codeplug_call_answer call(const struct opening *o, const struct call *c, uint8_t *room, uint8_t *history)
@@ -168,6 +185,7 @@ int LLVMFuzzerTestOneInput(const uint8_t *data, size_t size)
         return 0;
     blocks_again();
     at_start = how >= 128;
-    what[how % 128 % 5](in);
+    how %= 128;
+    how < 120 ? what[how % 5](in) : made_files(in);
     return 0;
 }
