@@ -75,6 +75,13 @@ operationOk x = leb 1 x && leb x 3
 unfoldable pub encryptionOk : ℕ → Bool
 encryptionOk x = leb x 2
 
+-- where the contact index of two bytes stands, of a DMR and of an M17 channel; an FM channel has none
+abbrev pub dmrContactAt : ℕ
+dmrContactAt = 87
+
+abbrev pub m17ContactAt : ℕ
+m17ContactAt = 88
+
 -- contact index: 65,535 means none
 unfoldable pub contactIndexOf : ℕ → ContactIndex
 contactIndexOf x = cond (eqb x 65535) contact.Nobody (contact.Index x)
@@ -128,7 +135,7 @@ unfoldable pub dmrRule : List ℕ → ℕ → Bool → Verdict
 dmrRule s base named =
     inside s base 85 1
     then field s base 86 1 7 (slotOk (getD s 86 0))
-    then field s base 87 2 9 named
+    then field s base dmrContactAt 2 9 named
     then field s base 89 1 7 (eqb (getD s 89 0) 0)
 
 -- access numbers (any), operation with encryption, position flag, contact index
@@ -137,7 +144,7 @@ m17Rule s base named =
     inside s base 85 1
     then field s base 86 1 7 (operationOk (halvesOf (getD s 86 0) .high) && encryptionOk (halvesOf (getD s 86 0) .low))
     then field s base 87 1 7 (leb (getD s 87 0) 1)
-    then field s base 88 2 9 named
+    then field s base m17ContactAt 2 9 named
 
 unfoldable pub infoRule : List ℕ → ℕ → Bool → Verdict
 infoRule s base named =
@@ -155,8 +162,8 @@ channelRule s base named = headRule s base then textsRule s base then locationRu
 unfoldable pub namedContact : List ℕ → ContactIndex
 namedContact s =
     cond (eqb (getD s 0 0) 0) contact.Nobody
-    (cond (eqb (getD s 0 0) 1) (contactIndexOf (num s 87 2))
-    (contactIndexOf (num s 88 2)))
+    (cond (eqb (getD s 0 0) 1) (contactIndexOf (num s dmrContactAt 2))
+    (contactIndexOf (num s m17ContactAt 2)))
 
 unfoldable pub locationOf : List ℕ → Location
 locationOf s =
@@ -184,7 +191,7 @@ unfoldable pub fmOf : List ℕ → FmInfo
 fmOf s = record { receive = toneOf (getD s 85 0); transmit = toneOf (getD s 86 0) }
 
 unfoldable pub dmrOf : List ℕ → DmrInfo
-dmrOf s = record { colours = halvesOf (getD s 85 0); slot = getD s 86 0; contact = contactIndexOf (num s 87 2) }
+dmrOf s = record { colours = halvesOf (getD s 85 0); slot = getD s 86 0; contact = contactIndexOf (num s dmrContactAt 2) }
 
 unfoldable pub m17Of : List ℕ → M17Info
 m17Of s =
@@ -193,7 +200,7 @@ m17Of s =
       operation = halvesOf (getD s 86 0) .high;
       encryption = halvesOf (getD s 86 0) .low;
       position = eqb (getD s 87 0) 1;
-      contact = contactIndexOf (num s 88 2);
+      contact = contactIndexOf (num s m17ContactAt 2);
     }
 
 unfoldable pub infoOf : List ℕ → Info
@@ -244,11 +251,11 @@ infoGiven (Fm i) = unless (toneGood (i .receive)) 7 85 then unless (toneGood (i 
 infoGiven (Dmr i) =
     unless (halvesGood (i .colours)) 7 85
     then unless (slotOk (i .slot)) 7 86
-    then unless (contactIndexGood (i .contact)) 9 87
+    then unless (contactIndexGood (i .contact)) 9 dmrContactAt
 infoGiven (M17 i) =
     unless (halvesGood (i .access)) 7 85
     then unless (operationOk (i .operation) && encryptionOk (i .encryption)) 7 86
-    then unless (contactIndexGood (i .contact)) 9 88
+    then unless (contactIndexGood (i .contact)) 9 m17ContactAt
 
 unfoldable pub channelGiven : ℕ → List ℕ → List ℕ → Common → Info → Verdict
 channelGiven size name description common info =

@@ -18,7 +18,7 @@ use Rattle.plug.specs.Edits.{insertAt, removeAt, replaceAt, changeAt, withBanks
 use Rattle.plug.proofs.Blocks.{Every, Small, every-getD, every-take, every-drop, length-bankBytes}
 use Rattle.plug.proofs.Shape.{BankShaped, Shaped}
 use Rattle.plug.proofs.Judged.{entriesOf, entriesOf-append, entriesOf-passes, bankOk, bankOk-passes, BankGood}
-use Rattle.edit.specs.Result.{mayGrow}
+use Rattle.edit.specs.Foretold.{mayGrow}
 use Rattle.edit.proofs.Accepted.{Accepted}
 use Rattle.edit.proofs.ListEdits.{length-insert, length-remove, change-is, every-insert, every-remove}
 use Rattle.edit.proofs.BankEdits.{noBank, shaped-replace-bank, length-replace-bank, replace-bank-judged, replace-bank-short, shaped-insert-bank, insert-bank-judged}

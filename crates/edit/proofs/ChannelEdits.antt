@@ -21,7 +21,7 @@ use Rattle.plug.specs.Edits.{insertAt, removeAt, replaceAt, raised, lowered, mo
 use Rattle.plug.proofs.Blocks.{Every, Wide, Small, every-so, every-map, every-take, every-drop, banksBytes, length-bankBytes}
 use Rattle.plug.proofs.Shape.{BankShaped, Shaped, channelsStart, length-plug, channel-place}
 use Rattle.plug.proofs.Judged.{eachOf, eachOf-append, BankGood, banksOk-passes}
-use Rattle.edit.specs.Result.{mayGrow}
+use Rattle.edit.specs.Foretold.{mayGrow}
 use Rattle.edit.proofs.Accepted.{channelIn, index-ok, file-judged, ChannelGood, contacts-pass, channels-pass, Accepted}
 use Rattle.edit.proofs.ListEdits.{length-insert, length-remove, length-replace, every-insert, every-remove, every-replace, every-both}
 use Rattle.edit.proofs.Moves.{raised-le, lowered-below, none-holds}

@@ -23,7 +23,7 @@ use Rattle.plug.specs.Edits.{insertAt, removeAt, replaceAt, raised, lowered, mo
 use Rattle.plug.proofs.Blocks.{Every, Wide, every-map, every-each}
 use Rattle.plug.proofs.Shape.{Shaped, channelsStart, length-plug}
 use Rattle.plug.proofs.Judged.{eachOf, channels-judged, banksOk-passes}
-use Rattle.edit.specs.Result.{mayGrow, indexPlace, keepsMode}
+use Rattle.edit.specs.Foretold.{mayGrow, indexPlace, keepsMode}
 use Rattle.edit.proofs.Accepted.{namesIn, channelIn, file-judged, ContactGood, ChannelGood, fm-names, contacts-pass, channels-pass, Accepted}
 use Rattle.edit.proofs.ListEdits.{length-insert, length-remove, length-replace, every-insert, every-remove, every-replace, every-both}
 use Rattle.edit.proofs.ListEdits.{getD-insert-before, getD-insert-after, getD-remove-before, getD-remove-after, getD-replace-same, getD-replace-other}

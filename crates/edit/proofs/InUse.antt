@@ -13,7 +13,7 @@ use Rattle.channel.specs.Channel.{namedContact}
 use Rattle.channel.specs.declared.ContactIndex.{ContactIndex}
 use Rattle.layout.specs.Banks.{entryCount, nextBank}
 use Rattle.plug.specs.Plug.{blocks, indexesAt, banksAt}
-use Rattle.plug.specs.Edits.{isIndex, someNames, holds, someHolds}
+use Rattle.plug.specs.Edits.{isIndex, someNames, holdsChannel, someHolds}
 
 -- ---- one step of a walk: all is the answer, b the record's, s what is left
 
@@ -56,30 +56,30 @@ names-next i n m p f all b s x h e ds dx db g =
 
 -- ---- entries that are channel i
 
-pub holds-none : (i n m p : ℕ) (f : List ℕ) → n ≤ m → holds i (indexesAt f (n - m) p) ≡ false
-unfolding holds indexesAt
+pub holds-none : (i n m p : ℕ) (f : List ℕ) → n ≤ m → holdsChannel i (indexesAt f (n - m) p) ≡ false
+unfolding holdsChannel indexesAt
 holds-none i n m p f h = let z : n - m ≡ 0 = omega arith in rw z
 
-holds-suc : (i n p : ℕ) (f : List ℕ) → holds i (indexesAt f (suc n) p) ≡ (eqb (num f p 2) i || holds i (indexesAt f n (p + 2)))
-unfolding holds indexesAt
+holds-suc : (i n p : ℕ) (f : List ℕ) → holdsChannel i (indexesAt f (suc n) p) ≡ (eqb (num f p 2) i || holdsChannel i (indexesAt f n (p + 2)))
+unfolding holdsChannel indexesAt
 holds-suc i n p f = refl
 
 holds-step : (i n m p : ℕ) (f : List ℕ) → m < n
-    → holds i (indexesAt f (n - m) p) ≡ (eqb (num f p 2) i || holds i (indexesAt f (n - (m + 1)) (p + 2)))
+    → holdsChannel i (indexesAt f (n - m) p) ≡ (eqb (num f p 2) i || holdsChannel i (indexesAt f (n - (m + 1)) (p + 2)))
 holds-step i n m p f h =
     let e : n - m ≡ suc (n - (m + 1)) = omega arith in
     rw e (holds-suc i (n - (m + 1)) p f)
 
-pub holds-found : (i n m p : ℕ) (f : List ℕ) (all : Bool) (x : ℕ) → m < n → all ≡ holds i (indexesAt f (n - m) p) → x ≡ num f p 2
+pub holds-found : (i n m p : ℕ) (f : List ℕ) (all : Bool) (x : ℕ) → m < n → all ≡ holdsChannel i (indexesAt f (n - m) p) → x ≡ num f p 2
     → x ≡ i → true ≡ all
 holds-found i n m p f all x h e d g =
-    or-found all (eqb (num f p 2) i) (holds i (indexesAt f (n - (m + 1)) (p + 2)))
+    or-found all (eqb (num f p 2) i) (holdsChannel i (indexesAt f (n - (m + 1)) (p + 2)))
     (e ∙ holds-step i n m p f h) (eq-eqb (num f p 2) i (sym d ∙ g))
 
-pub holds-next : (i n m p : ℕ) (f : List ℕ) (all : Bool) (x : ℕ) → m < n → all ≡ holds i (indexesAt f (n - m) p) → x ≡ num f p 2
-    → (x ≡ i → ⊥) → all ≡ holds i (indexesAt f (n - (m + 1)) (p + 2))
+pub holds-next : (i n m p : ℕ) (f : List ℕ) (all : Bool) (x : ℕ) → m < n → all ≡ holdsChannel i (indexesAt f (n - m) p) → x ≡ num f p 2
+    → (x ≡ i → ⊥) → all ≡ holdsChannel i (indexesAt f (n - (m + 1)) (p + 2))
 holds-next i n m p f all x h e d g =
-    or-next all (eqb (num f p 2) i) (holds i (indexesAt f (n - (m + 1)) (p + 2)))
+    or-next all (eqb (num f p 2) i) (holdsChannel i (indexesAt f (n - (m + 1)) (p + 2)))
     (e ∙ holds-step i n m p f h) (ne-eqb (num f p 2) i (λ a. g (d ∙ a)))
 
 -- ---- banks that hold channel i
@@ -89,27 +89,27 @@ unfolding someHolds banksAt
 banks-none i n m p f h = let z : n - m ≡ 0 = omega arith in rw z
 
 banks-suc : (i n p : ℕ) (f : List ℕ) → someHolds i (banksAt f (suc n) p)
-    ≡ (holds i (indexesAt f (entryCount f p) (p + 34)) || someHolds i (banksAt f n (nextBank f p)))
+    ≡ (holdsChannel i (indexesAt f (entryCount f p) (p + 34)) || someHolds i (banksAt f n (nextBank f p)))
 unfolding someHolds banksAt
 banks-suc i n p f = refl
 
 banks-step : (i n m p : ℕ) (f : List ℕ) → m < n → someHolds i (banksAt f (n - m) p)
-    ≡ (holds i (indexesAt f (entryCount f p) (p + 34)) || someHolds i (banksAt f (n - (m + 1)) (nextBank f p)))
+    ≡ (holdsChannel i (indexesAt f (entryCount f p) (p + 34)) || someHolds i (banksAt f (n - (m + 1)) (nextBank f p)))
 banks-step i n m p f h =
     let e : n - m ≡ suc (n - (m + 1)) = omega arith in
     rw e (banks-suc i (n - (m + 1)) p f)
 
 -- the bank at p has k entries
 pub banks-found : (i n m p : ℕ) (f : List ℕ) (all b : Bool) (k : ℕ) → m < n → all ≡ someHolds i (banksAt f (n - m) p)
-    → k ≡ entryCount f p → b ≡ holds i (indexesAt f k (p + 34)) → b ≡ true → true ≡ all
+    → k ≡ entryCount f p → b ≡ holdsChannel i (indexesAt f k (p + 34)) → b ≡ true → true ≡ all
 banks-found i n m p f all b k h e dk db g =
-    or-found all (holds i (indexesAt f (entryCount f p) (p + 34))) (someHolds i (banksAt f (n - (m + 1)) (nextBank f p)))
+    or-found all (holdsChannel i (indexesAt f (entryCount f p) (p + 34))) (someHolds i (banksAt f (n - (m + 1)) (nextBank f p)))
     (e ∙ banks-step i n m p f h) (rw (← dk, ← db) g)
 
 pub banks-next : (i n m p : ℕ) (f : List ℕ) (all b : Bool) (k q : ℕ) → m < n → all ≡ someHolds i (banksAt f (n - m) p)
-    → k ≡ entryCount f p → b ≡ holds i (indexesAt f k (p + 34)) → b ≡ false → q ≡ nextBank f p
+    → k ≡ entryCount f p → b ≡ holdsChannel i (indexesAt f k (p + 34)) → b ≡ false → q ≡ nextBank f p
     → all ≡ someHolds i (banksAt f (n - (m + 1)) q)
 banks-next i n m p f all b k q h e dk db g dq =
     rw dq
-    (or-next all (holds i (indexesAt f (entryCount f p) (p + 34))) (someHolds i (banksAt f (n - (m + 1)) (nextBank f p)))
+    (or-next all (holdsChannel i (indexesAt f (entryCount f p) (p + 34))) (someHolds i (banksAt f (n - (m + 1)) (nextBank f p)))
     (e ∙ banks-step i n m p f h) (rw (← dk, ← db) g))

@@ -21,7 +21,8 @@ use Rattle.plug.specs.Edits.{recordLength, insertAt, removeAt, replaceAt, chang
 use Rattle.plug.proofs.Blocks.{every-getD, banksBytes, length-bankBytes}
 use Rattle.plug.proofs.FileOf.{file-of-plug}
 use Rattle.plug.proofs.Shape.{BankShaped, Shaped, length-plug, plug-of-file, bank-count}
-use Rattle.edit.specs.Result.{result, resultLength}
+use Rattle.edit.specs.Result.{result}
+use Rattle.edit.specs.Foretold.{resultLength}
 use Rattle.edit.proofs.Accepted.{Accepted, laid, plug-accepted}
 use Rattle.edit.proofs.ListEdits.{length-insert, length-remove, length-replace, change-is}
 use Rattle.edit.proofs.BankEdits.{noBank, bytes-insert, bytes-remove, bytes-replace}

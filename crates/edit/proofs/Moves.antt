@@ -7,7 +7,7 @@ use native.Mathlib.Omega.{arith}
 use lib.Dec.{leb, ltb, eqb}
 use borrow.Author.Tests.{lt-ltb, le-ltb, le-leb, lt-leb, ne-eqb, eqb-false, eqb-true, ltb-true, ltb-false}
 use Rattle.plug.specs.Plug.{Bank}
-use Rattle.plug.specs.Edits.{raised, lowered, holds, someHolds}
+use Rattle.plug.specs.Edits.{raised, lowered, holdsChannel, someHolds}
 use Rattle.plug.proofs.Blocks.{Every}
 
 -- ---- raised
@@ -84,16 +84,16 @@ pub neither : (a b : Bool) → (a || b) ≡ false → (a ≡ false) × (b ≡ fa
 neither false b h = (refl, h)
 neither true b h = let z : _≡_ {A = ℕ} 0 1 = cc in absurd (omega arith)
 
-pub holds-not : (i : ℕ) (l : List ℕ) → holds i l ≡ false → Every (λ x. x ≡ i → ⊥) l
-unfolding holds
+pub holds-not : (i : ℕ) (l : List ℕ) → holdsChannel i l ≡ false → Every (λ x. x ≡ i → ⊥) l
+unfolding holdsChannel
 holds-not i [] h = tt
 holds-not i (x ∷ l) h =
-    let a = neither (eqb x i) (holds i l) h in
+    let a = neither (eqb x i) (holdsChannel i l) h in
     (eqb-false x i (a .0), holds-not i l (a .1))
 
 pub none-holds : (i : ℕ) (l : List Bank) → someHolds i l ≡ false → Every (λ b. Every (λ x. x ≡ i → ⊥) (b .entries)) l
 unfolding someHolds
 none-holds i [] h = tt
 none-holds i (b ∷ l) h =
-    let a = neither (holds i (b .entries)) (someHolds i l) h in
+    let a = neither (holdsChannel i (b .entries)) (someHolds i l) h in
     (holds-not i (b .entries) (a .0), none-holds i l (a .1))

@@ -14,7 +14,7 @@ use Rattle.fields.specs.declared.rule.Verdict.the-variants.{Good, Refused}
 use Rattle.codeplug.specs.File.{fileRule}
 use Rattle.codeplug.proofs.Laws.{file-good}
 use Rattle.journal.specs.Setting.{Call, edit, undo}
-use Rattle.journal.specs.Machine.{State, opened, answers, final, fileOf, entriesIn, stands, step, next}
+use Rattle.journal.specs.Machine.{State, opened, answers, final, fileOf, historyOf, stands, step, next}
 use Rattle.journal.specs.Book.{Book, book, bookAnswers, bookFile, bookFinal, fileAfter, anyKept, withoutLast}
 use Rattle.journal.proofs.Promise.{Laws, EveryEdit, promise, stateAfter, bookAfter, entries-after, stands-after, edit-refusals, undo-refusals, undo-refused, undo-takes-back}
 use Rattle.journal.proofs.StepLaws.{newestFirst}
@@ -87,7 +87,7 @@ module _ (f spare history : List ℕ) (good : fileRule f ≡ Good) (bytes : AllB
   editor-stands = stands-after editing OfBytes editing-laws f spare history good bytes calls proper
 
   -- the history's bytes are exactly the kept entries, newest first
-  pub editor-entries : entriesIn now ≡ whole (newestFirst editing booked)
+  pub editor-entries : historyOf now ≡ whole (newestFirst editing booked)
   editor-entries = entries-after editing OfBytes editing-laws f spare history good bytes calls proper
 
   -- an edit is refused by its own refusals of the file, and then by 37 at 0 where its entry alone exceeds the history buffer: no other

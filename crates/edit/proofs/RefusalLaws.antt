@@ -14,7 +14,8 @@ use Rattle.codeplug.specs.File.{fileRule}
 use Rattle.plug.specs.Plug.{plugOf}
 use Rattle.plug.specs.declared.Kind.{Kind}
 use Rattle.plug.specs.Edits.{recordLength, placeOk, countOk, inUse}
-use Rattle.edit.specs.Result.{result, resultRule, resultLength}
+use Rattle.edit.specs.Result.{result}
+use Rattle.edit.specs.Foretold.{resultRule, resultLength}
 use Rattle.edit.specs.Setting.{refusesKnown}
 use Rattle.edit.proofs.ResultLaws.{result-judged}
 use Rattle.edit.proofs.LengthLaws.{result-long}

@@ -17,7 +17,8 @@ use Rattle.plug.specs.declared.Kind.the-variants.{InsertContact, RemoveContact,
 use Rattle.plug.specs.Edits.{recordLength, edited, placeOk, countOk, inUse, entriesIn}
 use Rattle.plug.proofs.FileOf.{file-of-plug}
 use Rattle.plug.proofs.Shape.{Shaped, bytes-plug, channel-count, plug-of-file}
-use Rattle.edit.specs.Result.{result, resultRule}
+use Rattle.edit.specs.Result.{result}
+use Rattle.edit.specs.Foretold.{resultRule}
 use Rattle.edit.proofs.Accepted.{Accepted, laid, plug-accepted}
 use Rattle.edit.proofs.TitleEdit.{set-title-judged}
 use Rattle.edit.proofs.BankEdits.{remove-bank-judged}

@@ -25,7 +25,7 @@ use Rattle.plug.specs.Plug.{plugOf}
 use Rattle.plug.specs.Edits.{placeOk, entriesIn, isIndex}
 use Rattle.plug.specs.declared.Kind.{Kind}
 use Rattle.plug.specs.declared.Kind.the-variants.{InsertContact, ReplaceContact, InsertChannel, RemoveChannel, ReplaceChannel, InsertBank, RemoveBank, RenameBank, InsertEntry}
-use Rattle.edit.specs.Result.{indexPlace, keepsMode}
+use Rattle.edit.specs.Foretold.{indexPlace, keepsMode}
 use Rattle.edit.proofs.Accepted.{laid}
 use Rattle.edit.proofs.EditShape.{up-to, below}
 use Rattle.edit.proofs.PlaceLaws.{contacts-count, channels-count, banks-count, entries-at}

@@ -1,4 +1,6 @@
--- The twelve edits of a file: the file that each rule describes, and what reading it gives.
+-- The twelve edits of a file: the file that each rule describes, and what refuses them.
 pub mod Result
 pub mod Setting
+-- how the code goes about it
+pub mod Foretold
 pub mod Planned

@@ -16,7 +16,7 @@ ghost use lib.ListN.{length};
 ghost use Rattle.fields.specs.declared.rule.Verdict.the-variants.{Good};
 ghost use Rattle.codeplug.specs.File.{fileRule};
 ghost use Rattle.plug.specs.Plug.{plugOf, indexesAt};
-ghost use Rattle.plug.specs.Edits.{isIndex, someNames, holds, someHolds, inUse};
+ghost use Rattle.plug.specs.Edits.{isIndex, someNames, holdsChannel, someHolds, inUse};
 
 pub(crate) fn is_index(c: ContactIndex, i: usize) -> bool
     ensures { λ r. ⌜ r ≡ isIndex i c ⌝ }
@@ -47,7 +47,7 @@ pub fn some_names(f: &[u8], i: usize) -> bool
 // Whether one of n entries from place p on is channel i.
 fn bank_holds(f: &[u8], n: usize, start: usize, i: usize) -> bool
     requires { ⌜ (n < 65536) × (start < 2 ^ 50) ⌝ }
-    ensures { λ r. ⌜ r ≡ holds i (indexesAt (now (f .entry)) n start) ⌝ }
+    ensures { λ r. ⌜ r ≡ holdsChannel i (indexesAt (now (f .entry)) n start) ⌝ }
 {
     let mut j = 0;
     let mut p = start;

@@ -36,7 +36,7 @@ ghost use Rattle.channel.specs.Channel.{channelRule};
 ghost use Rattle.codeplug.specs.File.{fileRule, indexOk};
 ghost use Rattle.plug.specs.Plug.{plugOf};
 ghost use Rattle.plug.specs.Edits.{recordLength, placeOk};
-ghost use Rattle.edit.specs.Result.{mayGrow, keepsMode, resultRule, resultLength};
+ghost use Rattle.edit.specs.Foretold.{mayGrow, keepsMode, resultRule, resultLength};
 
 // The file may grow by n bytes.
 fn may_grow(f: &[u8], n: usize) -> Verdict

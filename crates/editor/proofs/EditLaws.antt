@@ -17,9 +17,9 @@ use Rattle.fields.proofs.Laws.{AllBytes, then-good, good-then, then-refused, un
 use Rattle.codeplug.specs.File.{fileRule}
 use Rattle.codeplug.proofs.Laws.{file-good}
 use Rattle.journal.specs.Entry.{Entries, whole, broken, entriesOf, entrySize, historyBytes}
-use Rattle.journal.specs.History.{counted}
+use Rattle.journal.specs.Scan.{numberOfEntries}
 use Rattle.journal.specs.Change.{entryOf}
-use Rattle.journal.specs.Machine.{State, holding, isWhole, fileOf, entriesIn, stands, refused, done, newEntry, editRule, editOutcome, editStep}
+use Rattle.journal.specs.Machine.{State, holding, isWhole, fileOf, historyOf, stands, refused, done, newEntry, editRule, editOutcome, editStep}
 use Rattle.journal.specs.Span.{spanOf, entryFrom, Sound, spanSize, recordedIn}
 use Rattle.journal.specs.declared.answer.Answer.the-variants as answer
 use Rattle.journal.specs.declared.recording.Span.{Span}
@@ -48,17 +48,17 @@ pub stand-file : (m : State) → stands editing m ≡ Good → fileRule (fileOf 
 unfolding stands
 stand-file m e = then-good _ _ (then-good _ _ e .1) .0
 
-whole-held : (t : Entries) → isWhole t ≡ Good → counted t ≡ read.Broken → ⊥
-unfolding counted isWhole
+whole-held : (t : Entries) → isWhole t ≡ Good → numberOfEntries t ≡ read.Broken → ⊥
+unfolding numberOfEntries isWhole
 whole-held (whole es) e b = let z : _≡_ {A = ℕ} 0 1 = cc in absurd (omega arith)
 whole-held broken e b = let z : _≡_ {A = ℕ} 0 1 = cc in absurd (omega arith)
 
-stand-whole : (m : State) → stands editing m ≡ Good → isWhole (entriesIn m) ≡ Good
+stand-whole : (m : State) → stands editing m ≡ Good → isWhole (historyOf m) ≡ Good
 unfolding stands
 stand-whole m e = then-good _ _ (then-good _ _ e .1) .1
 
-pub stand-entries : (m : State) → stands editing m ≡ Good → counted (entriesIn m) ≡ read.Broken → ⊥
-stand-entries m e = whole-held (entriesIn m) (stand-whole m e)
+pub stand-entries : (m : State) → stands editing m ≡ Good → numberOfEntries (historyOf m) ≡ read.Broken → ⊥
+stand-entries m e = whole-held (historyOf m) (stand-whole m e)
 
 -- ---- the call's step, by its kind
 
@@ -92,7 +92,7 @@ unfolding applied appliedKind
 applied-known a k f e = rw e
 
 -- both ways to tell the outcome agree
-outcome-known : (a : Asked) (m : State) (k : Kind) (v : Verdict) (t : Entries) → kindOf (a .kind) ≡ Known k → isWhole t ≡ Good → entriesIn m ≡ t
+outcome-known : (a : Asked) (m : State) (k : Kind) (v : Verdict) (t : Entries) → kindOf (a .kind) ≡ Known k → isWhole t ≡ Good → historyOf m ≡ t
     → editOutcome editing a m v t ≡ knownOutcome v k (a .first) (a .second) (a .bytes) m
 unfolding editOutcome knownOutcome committed newEntry recordedIn isWhole
 outcome-known a m k (Refused n p) (whole es) f g e = refl
@@ -105,7 +105,7 @@ pub edit-known : (a : Asked) (m : State) (k : Kind) (r : KindRead) → stands ed
 unfolding editStep knownStep
 edit-known a m k r e f g =
     let h : kindOf (a .kind) ≡ Known k = sym f ∙ g in
-    sym (rw (rule-known a m k e h) (outcome-known a m k (knownRule k (a .first) (a .second) (a .bytes) m) (entriesIn m) h (stand-whole m e) refl))
+    sym (rw (rule-known a m k e h) (outcome-known a m k (knownRule k (a .first) (a .second) (a .bytes) m) (historyOf m) h (stand-whole m e) refl))
 
 -- ---- a change recorded, then made
 
@@ -124,7 +124,7 @@ pub record Changes (d : List ℕ) (len : ℕ) (h : List ℕ) (used : ℕ) (g : L
   pub held : len ≤ length d
   pub short : len ≤ 1_048_576
   pub stored : used ≤ length h
-  pub unbroken : counted (entriesOf (take used h)) ≡ read.Broken → ⊥
+  pub unbroken : numberOfEntries (entriesOf (take used h)) ≡ read.Broken → ⊥
   pub sound : Sound s
   pub inside : s .place + s .taken ≤ len
   pub new-is : len - s .taken + s .put ≡ length g
@@ -140,9 +140,9 @@ pub stand-short : (d : List ℕ) (len : ℕ) (h : List ℕ) (used : ℕ) → sta
 stand-short d len h used fine = file-good (take len d) (stand-accepted d len h used fine) .short
 
 stand-unbroken : (d : List ℕ) (len : ℕ) (h : List ℕ) (used : ℕ) → stands editing (lent d len h used) ≡ Good
-    → counted (entriesOf (take used h)) ≡ read.Broken
+    → numberOfEntries (entriesOf (take used h)) ≡ read.Broken
     → ⊥
-unfolding entriesIn
+unfolding historyOf
 stand-unbroken d len h used fine = stand-entries (lent d len h used) fine
 
 module _ (d : List ℕ) (len : ℕ) (h : List ℕ) (used : ℕ) (g : List ℕ) where
@@ -182,7 +182,7 @@ module _ (d : List ℕ) (len : ℕ) (h : List ℕ) (used : ℕ) (g : List ℕ) w
         entries = length (recordedIn (length h) (entryFrom s b) (entriesOf (take used h)));
       }
       → left (answer.Done new (run .bytes) (run .entries)) d₁ h₁ ≡ committed g (lent d len h used)
-  unfolding committed done fileOf entriesIn
+  unfolding committed done fileOf historyOf
   change-made s b d₁ h₁ new run c e n f i r =
       let k : entryFrom s b ≡ entryOf (take len d) g = ap (λ (x : List ℕ). entryFrom s x) e ∙ c .entry-is in
       let l : new ≡ length g = n ∙ c .new-is in

@@ -7,6 +7,7 @@ use native.Mathlib.Omega.{arith}
 use lib.ListN.{length, take, drop, length-append, length-drop, take-append-drop}
 use lib.Seq.{drop-drop, length-take-le}
 use Rattle.fields.specs.Bytes.{part, over, zeros}
+use Rattle.fields.specs.Rule.{isGood}
 use Rattle.fields.specs.declared.rule.Verdict.{Verdict}
 use Rattle.fields.specs.declared.rule.Verdict.the-variants.{Good, Refused}
 use Rattle.fields.proofs.Laws.{length-part, length-over, length-zeros, part-over, drop-over}
@@ -15,7 +16,6 @@ use Rattle.moves.specs.Splice.{spliced, cut}
 use Rattle.moves.specs.Turn.{turned}
 use Rattle.moves.proofs.Laws.{spliced-whole, spliced-of, take-over-before}
 use Rattle.moves.proofs.TurnLaws.{cut-three, cut-four, over-mid, turned-mid, length-turned}
-use Rattle.journal.specs.Machine.{isGood}
 use Rattle.editor.specs.Undo.{Tried}
 
 -- ---- a swap and a turn taken back

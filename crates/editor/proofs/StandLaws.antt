@@ -13,8 +13,8 @@ use Rattle.fields.specs.declared.rule.Verdict.the-variants.{Good, Refused}
 use Rattle.fields.proofs.Laws.{then-good, unless-good}
 use Rattle.codeplug.specs.File.{fileRule}
 use Rattle.journal.specs.Entry.{Entries, whole, broken, entriesOf}
-use Rattle.journal.specs.History.{counted}
-use Rattle.journal.specs.Machine.{isWhole, fileOf, entriesIn, stands}
+use Rattle.journal.specs.Scan.{numberOfEntries}
+use Rattle.journal.specs.Machine.{isWhole, fileOf, historyOf, stands}
 use Rattle.journal.specs.declared.scan.HistoryRead.{HistoryRead}
 use Rattle.journal.specs.declared.scan.HistoryRead.the-variants as read
 use Rattle.edit.specs.Setting.{editing}
@@ -22,20 +22,20 @@ use Rattle.editor.specs.Calls.{lent}
 
 -- ---- 31
 
-whole-by : (t : Entries) (n : ℕ) → counted t ≡ read.Entries n → Good ≡ isWhole t
-unfolding counted isWhole
+whole-by : (t : Entries) (n : ℕ) → numberOfEntries t ≡ read.Entries n → Good ≡ isWhole t
+unfolding numberOfEntries isWhole
 whole-by (whole es) n e = refl
 whole-by broken n e = let z : _≡_ {A = ℕ} 0 1 = cc in absurd (omega arith)
 
-pub broken-by : (t : Entries) → counted t ≡ read.Broken → t ≡ broken
-unfolding counted
+pub broken-by : (t : Entries) → numberOfEntries t ≡ read.Broken → t ≡ broken
+unfolding numberOfEntries
 broken-by (whole es) e = let z : _≡_ {A = ℕ} 0 1 = cc in absurd (omega arith)
 broken-by broken e = refl
 
-pub whole-good : (s : List ℕ) (n : ℕ) {r : HistoryRead} → r ≡ counted (entriesOf s) → r ≡ read.Entries n → Good ≡ isWhole (entriesOf s)
+pub whole-good : (s : List ℕ) (n : ℕ) {r : HistoryRead} → r ≡ numberOfEntries (entriesOf s) → r ≡ read.Entries n → Good ≡ isWhole (entriesOf s)
 whole-good s n e f = whole-by (entriesOf s) n (sym e ∙ f)
 
-pub whole-bad : (s : List ℕ) {r : HistoryRead} → r ≡ counted (entriesOf s) → r ≡ read.Broken → Refused 31 0 ≡ isWhole (entriesOf s)
+pub whole-bad : (s : List ℕ) {r : HistoryRead} → r ≡ numberOfEntries (entriesOf s) → r ≡ read.Broken → Refused 31 0 ≡ isWhole (entriesOf s)
 unfolding isWhole
 whole-bad s e f = rw (broken-by (entriesOf s) (sym e ∙ f))
 
@@ -52,7 +52,7 @@ stand-history d len h used f g = rw (le-leb len (length d) f, lt-leb used (lengt
 
 pub stand-both : (d : List ℕ) (len : ℕ) (h : List ℕ) (used : ℕ) (v w r : Verdict) → len ≤ length d → used ≤ length h → v ≡ fileRule (take len d)
     → w ≡ isWhole (entriesOf (take used h)) → r ≡ v then w → r ≡ stands editing (lent d len h used)
-unfolding stands unless _then_ fileOf entriesIn
+unfolding stands unless _then_ fileOf historyOf
 stand-both d len h used v w r f g e i j = rw (le-leb len (length d) f, le-leb used (length h) g, ← e, ← i) j
 
 pub and-both : (a b : Bool) → a && b ≡ true → (a ≡ true) × (b ≡ true)

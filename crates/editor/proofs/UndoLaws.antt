@@ -10,6 +10,7 @@ use lib.Seq.{drop-drop, length-take-le, take-all}
 use lib.Dec.{leb}
 use borrow.Author.Tests.{le-leb, lt-leb, leb-true}
 use Rattle.fields.specs.Bytes.{part, over, zeros}
+use Rattle.fields.specs.Rule.{_then_, unless, isGood}
 use Rattle.fields.specs.declared.rule.Verdict.{Verdict}
 use Rattle.fields.specs.declared.rule.Verdict.the-variants.{Good, Refused}
 use Rattle.fields.proofs.Laws.{AllBytes, bytes-take, bytes-drop, length-part, length-zeros, part-part, over-over, over-zero}
@@ -17,9 +18,9 @@ use Rattle.codeplug.specs.File.{fileRule}
 use Rattle.moves.specs.Splice.{spliced, cut}
 use Rattle.moves.proofs.Laws.{spliced-whole, spliced-of, spliced-content}
 use Rattle.journal.specs.Entry.{Entry, Entries, whole, broken, entriesOf, frontOf, front, none, before, historyBytes}
-use Rattle.journal.specs.History.{counted}
+use Rattle.journal.specs.Scan.{numberOfEntries}
 use Rattle.journal.specs.Change.{revert}
-use Rattle.journal.specs.Machine.{isGood, holding, fileOf, entriesIn, entryFits, stands, refused, done, undoOutcome, undoStep}
+use Rattle.journal.specs.Machine.{holding, fileOf, historyOf, entryFits, stands, refused, done, topRule, undoRule, undoOutcome, undoStep}
 use Rattle.journal.specs.declared.answer.Answer.the-variants as answer
 use Rattle.journal.specs.declared.scan.EntryHead.{EntryHead}
 use Rattle.journal.specs.declared.scan.HistoryRead.{HistoryRead}
@@ -166,7 +167,7 @@ module _ (d : List ℕ) (len : ℕ) (h : List ℕ) (used : ℕ) (top : EntryHead
 
 -- ---- the first entry of a history
 
-pub held-read : (s : List ℕ) (n : ℕ) {r : HistoryRead} → r ≡ counted (entriesOf s) → r ≡ read.Entries n → Held s n
+pub held-read : (s : List ℕ) (n : ℕ) {r : HistoryRead} → r ≡ numberOfEntries (entriesOf s) → r ≡ read.Entries n → Held s n
 held-read s n e f = counted-held s n (sym e ∙ f)
 
 -- a history whose entry e comes first, then t
@@ -213,25 +214,32 @@ top-is h used top r g =
 
 pub undo-refused : (d : List ℕ) (len : ℕ) (h : List ℕ) (used n p : ℕ) {v : Verdict} → v ≡ stands editing (lent d len h used) → v ≡ Refused n p
     → left (answer.Refused n p) d h ≡ undoStep editing (lent d len h used)
-unfolding undoStep undoOutcome refused
+unfolding undoStep undoRule undoOutcome refused _then_
 undo-refused d len h used n p e f = rw (sym e ∙ f)
 
 module _ (d : List ℕ) (len : ℕ) (h : List ℕ) (used : ℕ) (fine : stands editing (lent d len h used) ≡ Good) where
-  pub undo-broken : {r : HistoryRead} → r ≡ counted (entriesOf (take used h)) → r ≡ read.Broken
+  pub undo-broken : {r : HistoryRead} → r ≡ numberOfEntries (entriesOf (take used h)) → r ≡ read.Broken
       → left (answer.Refused 31 0) d h ≡ undoStep editing (lent d len h used)
-  unfolding undoStep undoOutcome entriesIn refused
+  unfolding undoStep undoRule topRule undoOutcome historyOf refused _then_
   undo-broken e f = rw (fine, broken-by (entriesOf (take used h)) (sym e ∙ f))
 
   pub undo-none : (n : ℕ) → Held (take used h) n → frontOf (take used h) ≡ none
       → left (answer.Refused 38 0) d h ≡ undoStep editing (lent d len h used)
-  unfolding undoStep undoOutcome entriesIn refused
+  unfolding undoStep undoRule topRule undoOutcome historyOf refused _then_
   undo-none n e f = rw (fine, e .held-is, none-held (take used h) (e .held) (e .held-is) f)
+
+  told-by : (e : Entry) (rest : List Entry) (fits : Bool)
+      → undoOutcome editing (lent d len h used) (unless fits 39 0) (whole (e ∷ rest))
+      ≡ cond fits (done (revert e (take len d)) rest (lent d len h used)) (refused 39 0 (lent d len h used))
+  unfolding undoOutcome unless fileOf
+  told-by e rest true = refl
+  told-by e rest false = refl
 
   undo-first : (e : Entry) (rest : List Entry) → entriesOf (take used h) ≡ whole (e ∷ rest)
       → undoStep editing (lent d len h used)
       ≡ cond (entryFits editing e (lent d len h used)) (done (revert e (take len d)) rest (lent d len h used)) (refused 39 0 (lent d len h used))
-  unfolding undoStep undoOutcome entriesIn fileOf
-  undo-first e rest f = rw (fine, f)
+  unfolding undoStep undoRule topRule historyOf _then_
+  undo-first e rest f = rw (fine, f) (told-by e rest (entryFits editing e (lent d len h used)))
 
   -- the two ways to tell it agree, entry by entry
   undone-is : (top : EntryHead) (n : ℕ) (rest : List Entry) (v : Bool) → top .next ≡ top .body + top .taken → top .next ≤ used

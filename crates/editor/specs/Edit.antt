@@ -9,14 +9,14 @@ use Rattle.fields.specs.declared.rule.Verdict.the-variants.{Good, Refused}
 use Rattle.journal.specs.Entry.{entrySize}
 use Rattle.journal.specs.Change.{entryOf}
 use Rattle.journal.specs.Span.{recordedIn}
-use Rattle.journal.specs.Machine.{State, Outcome, fileOf, entriesIn, refused, done}
+use Rattle.journal.specs.Machine.{State, Outcome, fileOf, historyOf, refused, done}
 use Rattle.plug.specs.declared.Kind.{Kind}
 use Rattle.edit.specs.Result.{result}
 use Rattle.edit.specs.Setting.{refusesKnown}
 
 -- the room holds s, and the history the entry of that change first
 unfoldable pub committed : List ℕ → State → Outcome
-committed s m = done s (recordedIn (length (m .history)) (entryOf (fileOf m) s) (entriesIn m)) m
+committed s m = done s (recordedIn (length (m .history)) (entryOf (fileOf m) s) (historyOf m)) m
 
 -- what refuses an edit of a known kind, where both buffers stand
 unfoldable pub knownRule : Kind → ℕ → ℕ → List ℕ → State → Verdict

@@ -5,11 +5,12 @@ use mathlib.Core.Bool.{Bool, false, cond}
 use mathlib.Core.List.{List}
 use lib.ListN.{take, drop}
 use Rattle.fields.specs.Bytes.{part}
+use Rattle.fields.specs.Rule.{isGood}
 use Rattle.codeplug.specs.File.{fileRule}
 use Rattle.moves.specs.Splice.{spliced, cut}
 use Rattle.journal.specs.Entry.{Entry}
 use Rattle.journal.specs.Change.{revert}
-use Rattle.journal.specs.Machine.{Outcome, holding, refused, isGood, entryFits}
+use Rattle.journal.specs.Machine.{Outcome, holding, refused, entryFits}
 use Rattle.journal.specs.declared.answer.Answer.the-variants.{Done}
 use Rattle.journal.specs.declared.scan.EntryHead.{EntryHead}
 use Rattle.edit.specs.Setting.{editing}

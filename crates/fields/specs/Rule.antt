@@ -14,6 +14,10 @@ unfoldable pub _then_ : Verdict → Verdict → Verdict
 Good then v = v
 (Refused n p) then v = Refused n p
 
+unfoldable pub isGood : Verdict → Bool
+isGood Good = true
+isGood (Refused n p) = false
+
 -- a refusal of this number at this place, unless the test holds
 unfoldable pub unless : Bool → ℕ → ℕ → Verdict
 unless true number place = Good

@@ -11,7 +11,7 @@ use borrow.Author.Tests.{leb-true, leb-false}
 use Rattle.fields.proofs.Laws.{AllBytes}
 use Rattle.fields.specs.declared.rule.Verdict.the-variants as verdict
 use Rattle.journal.specs.Entry.{Entry, historyBytes}
-use Rattle.journal.specs.History.{kept}
+use Rattle.journal.specs.History.{fittingRun}
 use Rattle.journal.specs.Change.{entryOf}
 use Rattle.journal.specs.Setting.{Setting}
 use Rattle.journal.specs.Book.{Standing, fileAfter, keptEntries, together, dropOldest, trimmed, anyKept, withoutLast}
@@ -41,18 +41,18 @@ pub good-reverse : (es : List Entry) → AllGood es → AllGood (reverse es)
 good-reverse [] g = tt
 good-reverse (e ∷ es) g = rw (reverse-cons e es) (good-append (reverse es) (e ∷ []) (good-reverse es (g .1)) (g .0, tt))
 
-none-left : (size : ℕ) (es : List Entry) → length es ≤ 0 → reverse es ≡ kept size (reverse es)
+none-left : (size : ℕ) (es : List Entry) → length es ≤ 0 → reverse es ≡ fittingRun size (reverse es)
 none-left size [] h = sym (kept-none size)
 none-left size (e ∷ es) h = absurd (omega arith)
 
-kept-tail : (S : Setting) (size : ℕ) (es : List Entry) → size < together S es → kept size (reverse es) ≡ kept size (reverse (tail es))
+kept-tail : (S : Setting) (size : ℕ) (es : List Entry) → size < together S es → fittingRun size (reverse es) ≡ fittingRun size (reverse (tail es))
 kept-tail S size [] h = refl
 kept-tail S size (e ∷ es) h =
     let r = reverse-cons e es in
     let g : length (historyBytes (reverse (e ∷ es))) ≡ length (historyBytes (reverse es ++ (e ∷ []))) =
     ap (λ (l : List Entry). length (historyBytes l)) r
     in
-    ap (λ (l : List Entry). kept size l) r
+    ap (λ (l : List Entry). fittingRun size l) r
     ∙ kept-oldest size (reverse es) e (omega (arith, together-reverse S (e ∷ es)))
 
 length-tail : (es : List Entry) (n : ℕ) → length es ≤ suc n → length (tail es) ≤ n
@@ -306,7 +306,7 @@ module _ (S : Setting) where
 
   -- what is left is the longest run of entries, newest first, that fits
   pub entries-trimmed : (n size : ℕ) (f : List ℕ) (l : List (Standing S)) → length (keptEntries S f l) ≤ n
-      → reverse (keptEntries S f (trimmed S n size f l)) ≡ kept size (reverse (keptEntries S f l))
+      → reverse (keptEntries S f (trimmed S n size f l)) ≡ fittingRun size (reverse (keptEntries S f l))
   entries-trimmed zero size f l h = unfold trimmed in none-left size (keptEntries S f l) h
   entries-trimmed (suc n) size f l h =
       let es = keptEntries S f l in
@@ -319,7 +319,7 @@ module _ (S : Setting) where
       let short : length (keptEntries S f (dropOldest S l)) ≤ n = rw d (length-tail es n h) in
       rw (trim-more n size f l no)
       (entries-trimmed n size f (dropOldest S l) short
-      ∙ ap (λ (k : List Entry). kept size (reverse k)) d
+      ∙ ap (λ (k : List Entry). fittingRun size (reverse k)) d
       ∙ sym (kept-tail S size es (leb-false (together S es) size no))))
       (known (leb (together S es) size))
 

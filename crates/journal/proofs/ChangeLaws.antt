@@ -6,6 +6,7 @@ use native.Mathlib.Omega.{arith}
 use lib.ListN.{length, drop, length-drop}
 use lib.Seq.{drop-drop}
 use Rattle.fields.proofs.Laws.{AllBytes, bytes-part, length-part}
+use Rattle.moves.specs.Splice.{cut}
 use Rattle.moves.specs.Common.{commonStart}
 use Rattle.moves.proofs.Laws.{commonStart-left, commonStart-right, commonStart-self, take-commonStart}
 use Rattle.moves.proofs.Laws.{commonEnd-left, commonEnd-right, drop-commonEnd, between}
@@ -44,7 +45,7 @@ tail-same old new =
 
 -- taking the change back gives the old file
 pub revert-entryOf : (old new : List ℕ) → revert (entryOf old new) new ≡ old
-unfolding revert entryOf
+unfolding revert cut entryOf
 revert-entryOf old new =
     let p = commonStart old new in
     let s = tailOf old new in

@@ -16,7 +16,7 @@ use Rattle.fields.proofs.Laws.{AllBytes, bytes-nil, bytes-cons, bytes-drop, byt
 use Rattle.journal.specs.Number.{groups, numberBytes, withGroup, groupsAt, atMost, numberAt}
 use Rattle.journal.specs.Entry.{Entry, entryBytes, entrySize, historyBytes, Front, front, none, withOld, withPut, withPlace}
 use Rattle.journal.specs.Entry.{frontOf, restOf, Entries, whole, broken, before, entriesUpTo, entriesOf}
-use Rattle.journal.specs.History.{kept, recorded}
+use Rattle.journal.specs.History.{fittingRun, recorded}
 use Rattle.journal.specs.declared.number.NumberRead.{NumberRead}
 use Rattle.journal.specs.declared.number.NumberRead.the-variants.{Number, Broken}
 
@@ -609,48 +609,48 @@ history-one a b ga gb e =
 
 -- ---- the run that is kept
 
-pub kept-none : (room : ℕ) → kept room [] ≡ []
-unfolding kept
+pub kept-none : (room : ℕ) → fittingRun room [] ≡ []
+unfolding fittingRun
 kept-none room = refl
 
-pub kept-more : (room : ℕ) (e : Entry) (es : List Entry) → entrySize e ≤ room → kept room (e ∷ es) ≡ e ∷ kept (room - entrySize e) es
-unfolding kept
+pub kept-more : (room : ℕ) (e : Entry) (es : List Entry) → entrySize e ≤ room → fittingRun room (e ∷ es) ≡ e ∷ fittingRun (room - entrySize e) es
+unfolding fittingRun
 kept-more room e es h = rw (le-leb (entrySize e) room h)
 
-pub kept-stop : (room : ℕ) (e : Entry) (es : List Entry) → room < entrySize e → kept room (e ∷ es) ≡ []
-unfolding kept
+pub kept-stop : (room : ℕ) (e : Entry) (es : List Entry) → room < entrySize e → fittingRun room (e ∷ es) ≡ []
+unfolding fittingRun
 kept-stop room e es h = rw (lt-leb (entrySize e) room h)
 
 -- it fits
-pub kept-fits : (room : ℕ) (es : List Entry) → length (historyBytes (kept room es)) ≤ room
+pub kept-fits : (room : ℕ) (es : List Entry) → length (historyBytes (fittingRun room es)) ≤ room
 kept-fits room [] = rw (kept-none room, history-none) (omega arith)
 kept-fits room (e ∷ es) =
     ⊎-elim
     (λ no. rw (kept-stop room e es no, history-none) (omega arith))
     (λ yes.
-    rw (kept-more room e es yes, history-size e (kept (room - entrySize e) es)) (omega (arith, kept-fits (room - entrySize e) es)))
+    rw (kept-more room e es yes, history-size e (fittingRun (room - entrySize e) es)) (omega (arith, kept-fits (room - entrySize e) es)))
     (below-or room (entrySize e))
 
 -- a run that fits is kept, and what follows it gets the room that is left
 pub kept-front : (room : ℕ) (a b : List Entry) → length (historyBytes a) ≤ room
-    → kept room (a ++ b) ≡ a ++ kept (room - length (historyBytes a)) b
+    → fittingRun room (a ++ b) ≡ a ++ fittingRun (room - length (historyBytes a)) b
 kept-front room [] b h =
     let z : room ≡ room - length (historyBytes []) = rw history-none (omega arith) in
-    ap (λ (n : ℕ). kept n b) z
+    ap (λ (n : ℕ). fittingRun n b) z
 kept-front room (e ∷ a) b h =
     let g : entrySize e + length (historyBytes a) ≤ room = rw (history-size e a) at h in
     let r : room - entrySize e - length (historyBytes a) ≡ room - (entrySize e + length (historyBytes a)) = omega arith in
     rw (kept-more room e (a ++ b) (omega arith), kept-front (room - entrySize e) a b (omega arith), history-size e a, r)
 
 -- all of it where all of it fits, exactly too
-pub kept-all : (room : ℕ) (es : List Entry) → length (historyBytes es) ≤ room → kept room es ≡ es
+pub kept-all : (room : ℕ) (es : List Entry) → length (historyBytes es) ≤ room → fittingRun room es ≡ es
 kept-all room es h =
-    ap (λ (l : List Entry). kept room l) (sym (append-nil es))
+    ap (λ (l : List Entry). fittingRun room l) (sym (append-nil es))
     ∙ kept-front room es [] h
     ∙ rw (kept-none (room - length (historyBytes es)), append-nil es)
 
 -- it is the front of the list
-pub kept-rest : (room : ℕ) (es : List Entry) → kept room es ++ drop (length (kept room es)) es ≡ es
+pub kept-rest : (room : ℕ) (es : List Entry) → fittingRun room es ++ drop (length (fittingRun room es)) es ≡ es
 kept-rest room [] = rw (kept-none room)
 kept-rest room (e ∷ es) =
     ⊎-elim
@@ -659,8 +659,8 @@ kept-rest room (e ∷ es) =
     (below-or room (entrySize e))
 
 -- it is the longest: the next entry does not fit
-pub kept-next : (room : ℕ) (es : List Entry) (e : Entry) (rest : List Entry) → drop (length (kept room es)) es ≡ e ∷ rest
-    → room < length (historyBytes (kept room es)) + entrySize e
+pub kept-next : (room : ℕ) (es : List Entry) (e : Entry) (rest : List Entry) → drop (length (fittingRun room es)) es ≡ e ∷ rest
+    → room < length (historyBytes (fittingRun room es)) + entrySize e
 kept-next room [] e rest f = no-cons e rest (rw (kept-none room) at f)
 kept-next room (d ∷ es) e rest f =
     ⊎-elim
@@ -669,48 +669,48 @@ kept-next room (d ∷ es) e rest f =
     let q : d ≡ e = cc in
     rw (kept-stop room d es no, history-none, ← q) (omega arith))
     (λ yes.
-    let g : drop (length (kept (room - entrySize d) es)) es ≡ e ∷ rest = rw (kept-more room d es yes) at f in
-    rw (kept-more room d es yes, history-size d (kept (room - entrySize d) es))
+    let g : drop (length (fittingRun (room - entrySize d) es)) es ≡ e ∷ rest = rw (kept-more room d es yes) at f in
+    rw (kept-more room d es yes, history-size d (fittingRun (room - entrySize d) es))
     (omega (arith, kept-next (room - entrySize d) es e rest g)))
     (below-or room (entrySize d))
 
 -- no longer run fits
-pub kept-longest : (room : ℕ) (a b : List Entry) → length (historyBytes a) ≤ room → length a ≤ length (kept room (a ++ b))
+pub kept-longest : (room : ℕ) (a b : List Entry) → length (historyBytes a) ≤ room → length a ≤ length (fittingRun room (a ++ b))
 kept-longest room a b h =
-    let k = kept (room - length (historyBytes a)) b in
+    let k = fittingRun (room - length (historyBytes a)) b in
     rw (kept-front room a b h, length-append a k) (omega arith)
 
 -- its bytes are the front of the bytes
 pub kept-bytes : (room : ℕ) (es : List Entry)
-    → historyBytes (kept room es) ≡ take (length (historyBytes (kept room es))) (historyBytes es)
+    → historyBytes (fittingRun room es) ≡ take (length (historyBytes (fittingRun room es))) (historyBytes es)
 kept-bytes room es =
-    let k = kept room es in
+    let k = fittingRun room es in
     let r = drop (length k) es in
     let f : historyBytes es ≡ historyBytes k ++ historyBytes r =
     ap (λ (l : List Entry). historyBytes l) (sym (kept-rest room es)) ∙ history-append k r
     in
     sym (ap (λ (l : List ℕ). take (length (historyBytes k)) l) f ∙ take-append-seam (historyBytes k) (historyBytes r))
 
-pub kept-good : (room : ℕ) (es : List Entry) → AllGood es → AllGood (kept room es)
+pub kept-good : (room : ℕ) (es : List Entry) → AllGood es → AllGood (fittingRun room es)
 kept-good room es g =
-    good-left (kept room es) (drop (length (kept room es)) es) (rw (kept-rest room es) g)
+    good-left (fittingRun room es) (drop (length (fittingRun room es)) es) (rw (kept-rest room es) g)
 
 -- a smaller room of a larger one
-pub kept-kept : (small large : ℕ) (es : List Entry) → small ≤ large → kept small (kept large es) ≡ kept small es
+pub kept-kept : (small large : ℕ) (es : List Entry) → small ≤ large → fittingRun small (fittingRun large es) ≡ fittingRun small es
 kept-kept small large [] h = rw (kept-none large)
 kept-kept small large (e ∷ es) h =
     ⊎-elim
     (λ no.
     ⊎-elim
     (λ none-fits. rw (kept-stop large e es none-fits, kept-stop small e es no, kept-none small))
-    (λ fits. rw (kept-more large e es fits, kept-stop small e (kept (large - entrySize e) es) no, kept-stop small e es no))
+    (λ fits. rw (kept-more large e es fits, kept-stop small e (fittingRun (large - entrySize e) es) no, kept-stop small e es no))
     (below-or large (entrySize e)))
     (λ yes.
     let fits : entrySize e ≤ large = omega arith in
     let left : small - entrySize e ≤ large - entrySize e = omega arith in
     rw (
       kept-more large e es fits,
-      kept-more small e (kept (large - entrySize e) es) yes,
+      kept-more small e (fittingRun (large - entrySize e) es) yes,
       kept-more small e es yes,
       kept-kept (small - entrySize e) (large - entrySize e) es left,
     ))
@@ -718,7 +718,7 @@ kept-kept small large (e ∷ es) h =
 
 -- the oldest entry of a list that exceeds the room is not kept
 pub kept-oldest : (room : ℕ) (es : List Entry) (e : Entry) → room < length (historyBytes (es ++ (e ∷ [])))
-    → kept room (es ++ (e ∷ [])) ≡ kept room es
+    → fittingRun room (es ++ (e ∷ [])) ≡ fittingRun room es
 kept-oldest room [] e h =
     let g : room < entrySize e = omega (arith, history-size e [], ap length history-none) in
     kept-stop room e [] g ∙ sym (kept-none room)
@@ -736,7 +736,7 @@ kept-oldest room (d ∷ es) e h =
 
 -- ---- the history after an edit
 
-pub recorded-kept : (size : ℕ) (e : Entry) (es : List Entry) → entrySize e ≤ size → recorded size e es ≡ kept size (e ∷ es)
+pub recorded-kept : (size : ℕ) (e : Entry) (es : List Entry) → entrySize e ≤ size → recorded size e es ≡ fittingRun size (e ∷ es)
 unfolding recorded
 recorded-kept size e es h = sym (kept-more size e es h)
 
@@ -748,7 +748,7 @@ unfolding recorded
 recorded-good size e es g gs = (g, kept-good (size - entrySize e) es gs)
 
 pub recorded-bytes : (size : ℕ) (e : Entry) (es : List Entry)
-    → historyBytes (recorded size e es) ≡ entryBytes e ++ historyBytes (kept (size - entrySize e) es)
+    → historyBytes (recorded size e es) ≡ entryBytes e ++ historyBytes (fittingRun (size - entrySize e) es)
 unfolding recorded historyBytes
 recorded-bytes size e es = refl
 

@@ -16,9 +16,9 @@ use Rattle.fields.specs.declared.rule.Verdict.the-variants as verdict
 use Rattle.journal.specs.Entry.{entrySize, historyBytes, whole}
 use Rattle.journal.specs.Change.{entryOf}
 use Rattle.journal.specs.Setting.{Setting, Call, edit, undo}
-use Rattle.journal.specs.Machine.{State, opened, fileOf, entriesIn, stands, step, next, answers, final}
-use Rattle.journal.specs.Book.{Book, book, bookFile, fileAfter, keptEntries, bookRule, withEdit, afterEdit, anyKept, withoutLast}
-use Rattle.journal.specs.Book.{withStanding, undoRule, afterUndo, state, answerBy, bookNext, bookAnswer, bookAnswers, bookFinal}
+use Rattle.journal.specs.Machine.{State, opened, fileOf, historyOf, stands, step, next, answers, final}
+use Rattle.journal.specs.Book.{Book, book, bookFile, fileAfter, keptEntries, bookEditRule, withEdit, afterEdit, anyKept, withoutLast}
+use Rattle.journal.specs.Book.{withStanding, bookUndoRule, afterUndo, state, answerBy, bookNext, bookAnswer, bookAnswers, bookFinal}
 use Rattle.journal.specs.declared.answer.Answer.the-variants.{Done, Refused}
 use Rattle.journal.proofs.StepLaws.{Follows, Step, newestFirst, file-fine, edit-step, undo-step, entries-in, stands-good}
 
@@ -127,8 +127,8 @@ undo-keeps S (verdict.Refused n p) b = record { same-opening = refl; same-room =
 
 keeps-next : (S : Setting) (c : Call S) (b : Book S) → Keeps S (bookNext S c b) b
 unfolding bookNext
-keeps-next S (edit e) b = edit-keeps S (bookRule S e b) e b
-keeps-next S undo b = undo-keeps S (undoRule S b) b
+keeps-next S (edit e) b = edit-keeps S (bookEditRule S e b) e b
+keeps-next S undo b = undo-keeps S (bookUndoRule S b) b
 
 keeps-final : (S : Setting) (calls : List (Call S)) (b : Book S) → Keeps S (bookFinal S calls b) b
 unfolding bookFinal
@@ -172,7 +172,7 @@ module _ (S : Setting) (P : S .Edit → Type 0) (L : Laws S P) (f spare h : List
       agree S P L calls proper (opened f spare h) (book S f (length (f ++ spare)) (length h)) (follows-opened S f spare h good bytes) .follows-on
 
   -- the history's bytes are exactly the book's kept entries: the number of entries answered is the number that they hold
-  pub entries-after : entriesIn (stateAfter S f spare h calls) ≡ whole (newestFirst S (bookAfter S f spare h calls))
+  pub entries-after : historyOf (stateAfter S f spare h calls) ≡ whole (newestFirst S (bookAfter S f spare h calls))
   entries-after = entries-in S (L .short) (stateAfter S f spare h calls) (bookAfter S f spare h calls) follows-after
 
   -- 30, the file's own refusal and 31 do not arise
@@ -185,13 +185,13 @@ module _ (S : Setting) (P : S .Edit → Type 0) (L : Laws S P) (f spare h : List
       ⊎ (((n ≡ 37) × (p ≡ 0))
       × (length h
       < entrySize (entryOf (fileOf (stateAfter S f spare h calls)) (S .applied e (fileOf (stateAfter S f spare h calls))))))
-  unfolding bookAnswer bookRule book
+  unfolding bookAnswer bookEditRule book
   edit-refusals e ok n p a =
       let m = stateAfter S f spare h calls in
       let b = bookAfter S f spare h calls in
       let k = keeps-final S calls (book S f (length (f ++ spare)) (length h)) in
       let file : fileOf m ≡ bookFile S b = follows-after .file-is in
-      let r = answer-refused S (bookRule S e b) (bookNext S (edit e) b) n p (sym (edit-follows S P L e m b ok follows-after .same-answer) ∙ a) in
+      let r = answer-refused S (bookEditRule S e b) (bookNext S (edit e) b) n p (sym (edit-follows S P L e m b ok follows-after .same-answer) ∙ a) in
       let size = entrySize (entryOf (bookFile S b) (S .applied e (bookFile S b))) in
       ⊎-elim
       (λ own. inl (rw file (ap (λ (x : ℕ). S .refuses e x (bookFile S b)) (sym (k .same-room)) ∙ own)))
@@ -203,16 +203,16 @@ module _ (S : Setting) (P : S .Edit → Type 0) (L : Laws S P) (f spare h : List
   -- an undo is refused exactly where no standing edit's entry is kept, and then by 38 at 0: 39 does not arise
   pub undo-refusals : (n p : ℕ) → step S undo (stateAfter S f spare h calls) .answer ≡ Refused n p
       → ((n ≡ 38) × (p ≡ 0)) × (anyKept S (bookAfter S f spare h calls .standing) ≡ false)
-  unfolding bookAnswer undoRule
+  unfolding bookAnswer bookUndoRule
   undo-refusals n p a =
       let m = stateAfter S f spare h calls in
       let b = bookAfter S f spare h calls in
-      let r = answer-refused S (undoRule S b) (bookNext S undo b) n p (sym (undo-step S (L .short) m b follows-after .same-answer) ∙ a) in
+      let r = answer-refused S (bookUndoRule S b) (bookNext S undo b) n p (sym (undo-step S (L .short) m b follows-after .same-answer) ∙ a) in
       unless-refused (anyKept S (b .standing)) 38 n p r
 
   pub undo-refused : anyKept S (bookAfter S f spare h calls .standing) ≡ false
       → step S undo (stateAfter S f spare h calls) .answer ≡ Refused 38 0
-  unfolding bookAnswer undoRule answerBy unless
+  unfolding bookAnswer bookUndoRule answerBy unless
   undo-refused none =
       let m = stateAfter S f spare h calls in
       let b = bookAfter S f spare h calls in
@@ -227,5 +227,5 @@ module _ (S : Setting) (P : S .Edit → Type 0) (L : Laws S P) (f spare h : List
       let b = bookAfter S f spare h calls in
       let s = undo-step S (L .short) m b follows-after in
       let k = keeps-final S calls (book S f (length (f ++ spare)) (length h)) in
-      let g : undoRule S b ≡ verdict.Good = answer-done S (undoRule S b) (bookNext S undo b) len used n (sym (s .same-answer) ∙ a) in
+      let g : bookUndoRule S b ≡ verdict.Good = answer-done S (bookUndoRule S b) (bookNext S undo b) len used n (sym (s .same-answer) ∙ a) in
       s .follows .file-is ∙ rw (g, k .same-opening)

@@ -11,8 +11,8 @@ use Rattle.moves.specs.Common.{commonStart}
 use Rattle.moves.proofs.Laws.{commonStart-left, over-ahead}
 use Rattle.journal.specs.Number.{numberBytes}
 use Rattle.journal.specs.Entry.{Entry, entryBytes, entrySize, historyBytes, Entries, whole, broken, entriesOf}
-use Rattle.journal.specs.History.{kept, recorded, counted}
-use Rattle.journal.specs.Scan.{runOf}
+use Rattle.journal.specs.History.{fittingRun, recorded}
+use Rattle.journal.specs.Scan.{numberOfEntries, runOf}
 use Rattle.journal.specs.Change.{tailOf, entryOf}
 use Rattle.journal.specs.Machine.{holding}
 use Rattle.journal.specs.Span.{spanOf, entryFrom, Sound, spanSize, recordedIn}
@@ -115,20 +115,20 @@ entry-first d o q r used n size b past e f g h es bs ps fits =
 pub record KeptRun (d : List ℕ) (used room : ℕ) (k : Run) : Type 0 where
   pub held : List Entry
   pub held-is : entriesOf (take used d) ≡ whole held
-  pub bytes-is : k .bytes ≡ length (historyBytes (kept room held))
-  pub entries-is : k .entries ≡ length (kept room held)
-  pub run-is : take (k .bytes) d ≡ historyBytes (kept room held)
+  pub bytes-is : k .bytes ≡ length (historyBytes (fittingRun room held))
+  pub entries-is : k .entries ≡ length (fittingRun room held)
+  pub run-is : take (k .bytes) d ≡ historyBytes (fittingRun room held)
   pub fits : k .bytes ≤ room
   pub few : 3 * k .entries ≤ k .bytes
 
-run-by : (d : List ℕ) (used room : ℕ) (k : Run) (r : Entries) → AllBytes d → (counted r ≡ read.Broken → ⊥) → k ≡ runOf r room
+run-by : (d : List ℕ) (used room : ℕ) (k : Run) (r : Entries) → AllBytes d → (numberOfEntries r ≡ read.Broken → ⊥) → k ≡ runOf r room
     → entriesOf (take used d) ≡ r → KeptRun d used room k
-unfolding counted runOf
+unfolding numberOfEntries runOf
 run-by d used room k (whole es) b u f e =
-    let h = historyBytes (kept room es) in
+    let h = historyBytes (fittingRun room es) in
     let c : historyBytes es ≡ take used d = entries-canonical (take used d) es (bytes-take used d b) e .0 in
     let n : k .bytes ≡ length h = ap (λ (r : Run). r .bytes) f in
-    let m : k .entries ≡ length (kept room es) = ap (λ (r : Run). r .entries) f in
+    let m : k .entries ≡ length (fittingRun room es) = ap (λ (r : Run). r .entries) f in
     let t : h ≡ take (length h) (take used d) = kept-bytes room es ∙ ap (λ (l : List ℕ). take (length h) l) c in
     let i : length h ≤ length (take used d) = omega (arith, ap length t, length-take (length h) (take used d)) in
     let j : length h ≤ used = omega (arith, length-take used d) in
@@ -139,17 +139,17 @@ run-by d used room k (whole es) b u f e =
       entries-is = m;
       run-is = rw n (sym (t ∙ take-take (length h) used d j));
       fits = omega (arith, kept-fits room es);
-      few = omega (arith, history-least (kept room es));
+      few = omega (arith, history-least (fittingRun room es));
     }
 run-by d used room k broken b u f e = absurd (u refl)
 
-pub kept-run : {d : List ℕ} {used room : ℕ} {k : Run} → AllBytes d → (counted (entriesOf (take used d)) ≡ read.Broken → ⊥)
+pub kept-run : {d : List ℕ} {used room : ℕ} {k : Run} → AllBytes d → (numberOfEntries (entriesOf (take used d)) ≡ read.Broken → ⊥)
     → k ≡ runOf (entriesOf (take used d)) room → KeptRun d used room k
 kept-run {d} {used} {room} {k} b u f = run-by d used room k (entriesOf (take used d)) b u f refl
 
 -- the history with the entry first
 recorded-run : {d : List ℕ} {used room : ℕ} {k : Run} (r : KeptRun d used room k) (e : Entry) → room ≡ length d - entrySize e
-    → recordedIn (length d) e (entriesOf (take used d)) ≡ e ∷ kept room (r .held)
+    → recordedIn (length d) e (entriesOf (take used d)) ≡ e ∷ fittingRun room (r .held)
 unfolding recordedIn recorded
 recorded-run {d} r e f = rw (r .held-is, f)
 
@@ -169,7 +169,7 @@ pub run-first : {d : List ℕ} {used room : ℕ} {k : Run} → KeptRun d used ro
       entries = length (recordedIn (length d) e (entriesOf (take used d)));
     })
 run-first {d} {used} {room} {k} r e size s f =
-    let l = kept room (r .held) in
+    let l = fittingRun room (r .held) in
     let b : length (historyBytes (e ∷ l)) ≡ size + k .bytes = omega (arith, history-size e l, r .bytes-is) in
     let n : length (e ∷ l) ≡ k .entries + 1 = omega (arith, r .entries-is) in
     rw (recorded-run r e f, b, n)

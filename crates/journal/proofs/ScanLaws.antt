@@ -15,8 +15,8 @@ use Rattle.fields.proofs.Laws.{AllBytes, bytes-drop, length-part, over-byte, ov
 use Rattle.journal.specs.Number.{numberBytes, withGroup, groupsAt, atMost, numberAt}
 use Rattle.journal.specs.Entry.{Entry, entryBytes, entrySize, historyBytes, Front, front, none, withOld, withPut, withPlace}
 use Rattle.journal.specs.Entry.{frontOf, Entries, whole, broken, before, entriesOf}
-use Rattle.journal.specs.History.{kept, counted}
-use Rattle.journal.specs.Scan.{headOf, runOf}
+use Rattle.journal.specs.History.{fittingRun}
+use Rattle.journal.specs.Scan.{numberOfEntries, headOf, runOf}
 use Rattle.journal.specs.declared.number.NumberRead.{NumberRead}
 use Rattle.journal.specs.declared.number.NumberRead.the-variants.{Number, Broken}
 use Rattle.journal.specs.declared.scan.EntryHead.{EntryHead}
@@ -347,28 +347,28 @@ unfolding added
 added-none (read.Entries m) = rw zero-add
 added-none read.Broken = refl
 
-counted-next : (n : ℕ) (e : Entry) (t : List ℕ) (r : Entries) → added n (counted (before (front e t) r)) ≡ added (n + 1) (counted r)
-unfolding added counted before
+counted-next : (n : ℕ) (e : Entry) (t : List ℕ) (r : Entries) → added n (numberOfEntries (before (front e t) r)) ≡ added (n + 1) (numberOfEntries r)
+unfolding added numberOfEntries before
 counted-next n e t (whole es) = let f : n + suc (length es) ≡ n + 1 + length es = omega arith in rw f
 counted-next n e t broken = refl
 
-pub counted-start : (s : List ℕ) → counted (entriesOf s) ≡ added 0 (counted (entriesOf (drop 0 s)))
-counted-start s = added-none (counted (entriesOf s))
+pub counted-start : (s : List ℕ) → numberOfEntries (entriesOf s) ≡ added 0 (numberOfEntries (entriesOf (drop 0 s)))
+counted-start s = added-none (numberOfEntries (entriesOf s))
 
-pub counted-turn : (s : List ℕ) (k n m : ℕ) (h : EntryHead) (all : HistoryRead) → all ≡ added n (counted (entriesOf (drop k s)))
-    → HeadRead s k h → m ≡ n + 1 → all ≡ added m (counted (entriesOf (drop (h .next) s)))
+pub counted-turn : (s : List ℕ) (k n m : ℕ) (h : EntryHead) (all : HistoryRead) → all ≡ added n (numberOfEntries (entriesOf (drop k s)))
+    → HeadRead s k h → m ≡ n + 1 → all ≡ added m (numberOfEntries (entriesOf (drop (h .next) s)))
 counted-turn s k n m h all e r one =
     let t = drop (h .next) s in
     e ∙ rw (one, entries-next (drop k s) (r .entry) t (r .front-is)) (counted-next n (r .entry) t (entriesOf t))
 
-pub counted-stop : (s : List ℕ) (k n : ℕ) (all : HistoryRead) → all ≡ added n (counted (entriesOf (drop k s))) → k < length s
+pub counted-stop : (s : List ℕ) (k n : ℕ) (all : HistoryRead) → all ≡ added n (numberOfEntries (entriesOf (drop k s))) → k < length s
     → frontOf (drop k s) ≡ none → read.Broken ≡ all
-unfolding added counted
+unfolding added numberOfEntries
 counted-stop s k n all e h f = sym (e ∙ rw (entries-stop (drop k s) (omega (arith, length-drop k s)) f))
 
-pub counted-end : (s : List ℕ) (k n : ℕ) (all : HistoryRead) → all ≡ added n (counted (entriesOf (drop k s))) → length s ≤ k
+pub counted-end : (s : List ℕ) (k n : ℕ) (all : HistoryRead) → all ≡ added n (numberOfEntries (entriesOf (drop k s))) → length s ≤ k
     → read.Entries n ≡ all
-unfolding added counted
+unfolding added numberOfEntries
 counted-end s k n all e h =
     let z : n + 0 ≡ n = omega arith in
     sym (e ∙ rw (drop-of-length-le s h, entries-none, z))
@@ -378,14 +378,14 @@ counted-end s k n all e h =
 -- k bytes and n entries are passed
 unfoldable pub runFrom : ℕ → ℕ → ℕ → Entries → Run
 runFrom k n room (whole es) =
-    record { bytes = k + length (historyBytes (kept (room - k) es)); entries = n + length (kept (room - k) es) }
+    record { bytes = k + length (historyBytes (fittingRun (room - k) es)); entries = n + length (fittingRun (room - k) es) }
 runFrom k n room broken = record { bytes = 0; entries = 0 }
 
 run-zero : (room : ℕ) (r : Entries) → runOf r room ≡ runFrom 0 0 room r
 unfolding runOf runFrom
 run-zero room (whole es) =
     let z : room - 0 ≡ room = omega arith in
-    rw (z, zero-add (length (historyBytes (kept room es))), zero-add (length (kept room es)))
+    rw (z, zero-add (length (historyBytes (fittingRun room es))), zero-add (length (fittingRun room es)))
 run-zero room broken = refl
 
 run-next : (k n room next : ℕ) (e : Entry) (t : List ℕ) (r : Entries) → k + entrySize e ≡ next → next ≤ room
@@ -393,8 +393,8 @@ run-next : (k n room next : ℕ) (e : Entry) (t : List ℕ) (r : Entries) → k 
 unfolding runFrom before
 run-next k n room next e t (whole es) h g =
     let left : room - k - entrySize e ≡ room - next = omega arith in
-    let f : kept (room - k) (e ∷ es) ≡ e ∷ kept (room - next) es = kept-more (room - k) e es (omega arith) ∙ rw left in
-    let l = kept (room - next) es in
+    let f : fittingRun (room - k) (e ∷ es) ≡ e ∷ fittingRun (room - next) es = kept-more (room - k) e es (omega arith) ∙ rw left in
+    let l = fittingRun (room - next) es in
     let b : k + length (historyBytes (e ∷ l)) ≡ next + length (historyBytes l) = omega (arith, history-size e l) in
     let c : n + suc (length l) ≡ n + 1 + length l = omega arith in
     rw (f, b, c)
@@ -418,8 +418,8 @@ pub record Fitting (s : List ℕ) (room k n : ℕ) : Type 0 where
   pub same : runOf (entriesOf s) room ≡ runFrom k n room (entriesOf (drop k s))
   pub sound : entriesOf (drop k s) ≡ broken → ⊥
 
-pub fitting-start : (s : List ℕ) (room : ℕ) → (counted (entriesOf s) ≡ read.Broken → ⊥) → Fitting s room 0 0
-unfolding counted
+pub fitting-start : (s : List ℕ) (room : ℕ) → (numberOfEntries (entriesOf s) ≡ read.Broken → ⊥) → Fitting s room 0 0
+unfolding numberOfEntries
 fitting-start s room u = record { same = run-zero room (entriesOf s); sound = λ e. u (rw e) }
 
 pub fitting-turn : {s : List ℕ} {room k n : ℕ} {h : EntryHead} → AllBytes s → Fitting s room k n → HeadRead s k h → h .next ≤ room
@@ -459,21 +459,21 @@ pub record Held (s : List ℕ) (n : ℕ) : Type 0 where
   pub held-is : entriesOf s ≡ whole held
   pub many : length held ≡ n
 
-held-by : (s : List ℕ) (n : ℕ) (r : Entries) → entriesOf s ≡ r → counted r ≡ read.Entries n → Held s n
-unfolding counted
+held-by : (s : List ℕ) (n : ℕ) (r : Entries) → entriesOf s ≡ r → numberOfEntries r ≡ read.Entries n → Held s n
+unfolding numberOfEntries
 held-by s n (whole es) e f = record { held = es; held-is = e; many = cc }
 held-by s n broken e f = let z : _≡_ {A = ℕ} 0 1 = cc in absurd (omega arith)
 
-pub counted-held : (s : List ℕ) (n : ℕ) → counted (entriesOf s) ≡ read.Entries n → Held s n
+pub counted-held : (s : List ℕ) (n : ℕ) → numberOfEntries (entriesOf s) ≡ read.Entries n → Held s n
 counted-held s n f = held-by s n (entriesOf s) refl f
 
-pub counted-history : (es : List Entry) → AllGood es → counted (entriesOf (historyBytes es)) ≡ read.Entries (length es)
-unfolding counted
+pub counted-history : (es : List Entry) → AllGood es → numberOfEntries (entriesOf (historyBytes es)) ≡ read.Entries (length es)
+unfolding numberOfEntries
 counted-history es g = rw (entries-return es g)
 
 pub run-history : (es : List Entry) (room : ℕ) → AllGood es
     → runOf (entriesOf (historyBytes es)) room
-    ≡ record { bytes = length (historyBytes (kept room es)); entries = length (kept room es) }
+    ≡ record { bytes = length (historyBytes (fittingRun room es)); entries = length (fittingRun room es) }
 unfolding runOf
 run-history es room g = rw (entries-return es g)
 

@@ -9,19 +9,19 @@ use lib.Seq.{take-append-seam}
 use lib.Dec.{leb}
 use borrow.Author.Tests.{le-leb, leb-true}
 use Rattle.fields.specs.Bytes.{zeros}
-use Rattle.fields.specs.Rule.{_then_, unless}
+use Rattle.fields.specs.Rule.{_then_, unless, isGood}
 use Rattle.fields.proofs.Laws.{length-zeros, then-good, unless-good}
 use Rattle.fields.specs.declared.rule.Verdict.{Verdict}
 use Rattle.fields.specs.declared.rule.Verdict.the-variants as verdict
 use Rattle.journal.specs.Entry.{Entry, whole, entrySize, historyBytes}
-use Rattle.journal.specs.History.{kept, recorded}
+use Rattle.journal.specs.History.{fittingRun, recorded}
 use Rattle.journal.specs.Change.{entryOf}
 use Rattle.journal.specs.Setting.{Setting}
-use Rattle.journal.specs.Machine.{State, Outcome, holding, fileOf, entriesIn, isWhole, stands, refused, done, newEntry, editRule}
+use Rattle.journal.specs.Machine.{State, Outcome, holding, fileOf, historyOf, isWhole, stands, refused, done, newEntry, editRule}
 use Rattle.journal.specs.Setting.{Call, edit, undo}
-use Rattle.journal.specs.Machine.{editOutcome, editStep, isGood, entryFits, undoOutcome, undoStep, step, after, next}
-use Rattle.journal.specs.Book.{Standing, Book, bookFile, fileAfter, keptEntries, trimmed, withStanding, bookRule, withEdit}
-use Rattle.journal.specs.Book.{afterEdit, anyKept, withoutLast, undoRule, afterUndo, state, answerBy, bookNext, bookAnswer}
+use Rattle.journal.specs.Machine.{editOutcome, editStep, entryFits, topRule, undoRule, undoOutcome, undoStep, step, after, next}
+use Rattle.journal.specs.Book.{Standing, Book, bookFile, fileAfter, keptEntries, trimmed, withStanding, bookEditRule, withEdit}
+use Rattle.journal.specs.Book.{afterEdit, anyKept, withoutLast, bookUndoRule, afterUndo, state, answerBy, bookNext, bookAnswer}
 use Rattle.journal.specs.declared.answer.Answer.the-variants.{Done, Refused}
 use Rattle.journal.proofs.Laws.{AllGood, entries-return, recorded-kept, recorded-fits, history-size}
 use Rattle.journal.proofs.ChangeLaws.{revert-entryOf, entryOf-inside}
@@ -153,8 +153,8 @@ abbrev pub Short : Setting → Type 0
 Short S = (f : List ℕ) → S .accepts f ≡ verdict.Good → length f ≤ 1_048_576
 
 module _ (S : Setting) (short : Short S) (m : State) (b : Book S) (h : Follows S m b) where
-  pub entries-in : entriesIn m ≡ whole (newestFirst S b)
-  unfolding entriesIn
+  pub entries-in : historyOf m ≡ whole (newestFirst S b)
+  unfolding historyOf
   entries-in =
       let k = keptEntries S (b .opening) (b .standing) in
       let g : AllGood k = entries-good S short (b .roomSize) (b .opening) (b .standing) (h .all-fine) in
@@ -176,15 +176,15 @@ module _ (S : Setting) (short : Short S) (m : State) (b : Book S) (h : Follows S
 
   -- ---- an edit
 
-  pub edit-rule : (e : S .Edit) → editRule S e m ≡ bookRule S e b
-  unfolding editRule bookRule newEntry _then_
+  pub edit-rule : (e : S .Edit) → editRule S e m ≡ bookEditRule S e b
+  unfolding editRule bookEditRule newEntry _then_
   edit-rule e = rw (stands-good, h .file-is, h .room-size, h .history-size-is)
 
-  edit-refused : (e : S .Edit) (n p : ℕ) → bookRule S e b ≡ verdict.Refused n p → step S (edit e) m ≡ refused n p m
+  edit-refused : (e : S .Edit) (n p : ℕ) → bookEditRule S e b ≡ verdict.Refused n p → step S (edit e) m ≡ refused n p m
   unfolding step editStep editOutcome
   edit-refused e n p f = rw (edit-rule e, f)
 
-  edit-done : (e : S .Edit) → bookRule S e b ≡ verdict.Good
+  edit-done : (e : S .Edit) → bookEditRule S e b ≡ verdict.Good
       → step S (edit e) m
       ≡ done (S .applied e (bookFile S b))
       (recorded (b .historySize) (entryOf (bookFile S b) (S .applied e (bookFile S b))) (newestFirst S b)) m
@@ -217,7 +217,7 @@ module _ (S : Setting) (short : Short S) (m : State) (b : Book S) (h : Follows S
         file-made = file-trimmed S n size f (l ++ (s ∷ [])) ∙ file-last S f l s;
         entries-made =
             entries-trimmed S n size f (l ++ (s ∷ [])) many
-            ∙ ap (λ (es : List Entry). kept size es) back
+            ∙ ap (λ (es : List Entry). fittingRun size es) back
             ∙ sym (recorded-kept size new (reverse k) fits);
         made-fit = recorded-fits size new (reverse k) fits;
         made-fine =
@@ -228,17 +228,17 @@ module _ (S : Setting) (short : Short S) (m : State) (b : Book S) (h : Follows S
             (newest-more S l s refl (h .newest-kept));
       }
 
-  edit-accepted : (e : S .Edit) → bookRule S e b ≡ verdict.Good
+  edit-accepted : (e : S .Edit) → bookEditRule S e b ≡ verdict.Good
       → (S .refuses e (b .roomSize) (bookFile S b) ≡ verdict.Good)
       × (entrySize (entryOf (bookFile S b) (S .applied e (bookFile S b))) ≤ b .historySize)
-  unfolding bookRule
+  unfolding bookEditRule
   edit-accepted e f =
       let size = entrySize (entryOf (bookFile S b) (S .applied e (bookFile S b))) in
       let fits = leb size (b .historySize) in
       let g = then-good (S .refuses e (b .roomSize) (bookFile S b)) (unless fits 37 0) f in
       (g .0, leb-true size (b .historySize) (unless-good fits 37 0 (g .1)))
 
-  edit-by : (e : S .Edit) (v : Verdict) → bookRule S e b ≡ v
+  edit-by : (e : S .Edit) (v : Verdict) → bookEditRule S e b ≡ v
       → (S .refuses e (b .roomSize) (bookFile S b) ≡ verdict.Good → Fine S (b .roomSize) (S .applied e (bookFile S b)))
       → Step S (edit e) m b
   unfolding bookAnswer answerBy bookNext afterEdit withEdit
@@ -256,12 +256,12 @@ module _ (S : Setting) (short : Short S) (m : State) (b : Book S) (h : Follows S
   pub edit-step : (e : S .Edit)
       → (S .refuses e (b .roomSize) (bookFile S b) ≡ verdict.Good → Fine S (b .roomSize) (S .applied e (bookFile S b)))
       → Step S (edit e) m b
-  edit-step e fine = edit-by e (bookRule S e b) refl fine
+  edit-step e fine = edit-by e (bookEditRule S e b) refl fine
 
   -- ---- an undo
 
   undo-refused : anyKept S (b .standing) ≡ false → step S undo m ≡ refused 38 0 m
-  unfolding step undoStep undoOutcome
+  unfolding step undoStep undoRule topRule undoOutcome _then_
   undo-refused f =
       rw (stands-good, entries-in, entries-none S (b .opening) (b .standing) f)
 
@@ -309,7 +309,7 @@ module _ (S : Setting) (short : Short S) (m : State) (b : Book S) (h : Follows S
         )
 
     undo-done : step S undo m ≡ done file-before entries-before m
-    unfolding step undoStep undoOutcome
+    unfolding step undoStep undoRule topRule undoOutcome _then_ unless
     undo-done =
         rw (
           stands-good,
@@ -332,7 +332,7 @@ module _ (S : Setting) (short : Short S) (m : State) (b : Book S) (h : Follows S
         }
 
     undo-accepted : anyKept S (b .standing) ≡ true → Step S undo m b
-    unfolding bookAnswer answerBy bookNext afterUndo undoRule unless
+    unfolding bookAnswer answerBy bookNext afterUndo bookUndoRule unless
     undo-accepted f =
         let w : withoutLast S (b .standing) ≡ r .front =
         ap (λ (l : List (Standing S)). withoutLast S l) (r .is) ∙ without-last S (r .front) (r .last)
@@ -340,7 +340,7 @@ module _ (S : Setting) (short : Short S) (m : State) (b : Book S) (h : Follows S
         done-step S undo m b (r .front) file-before entries-before undo-done (rw f) (rw (f, w)) undo-made h
 
   undo-by : (t : Bool) → anyKept S (b .standing) ≡ t → Step S undo m b
-  unfolding bookAnswer answerBy bookNext afterUndo undoRule unless
+  unfolding bookAnswer answerBy bookNext afterUndo bookUndoRule unless
   undo-by true f = undo-accepted (last-kept S (b .standing) (h .newest-kept) f) f
   undo-by false f = refused-step S undo m b 38 0 (undo-refused f) (rw f) (rw f) h
 

@@ -64,8 +64,8 @@ module _ (S : Setting) where
 
   -- ---- an edit
 
-  unfoldable pub bookRule : S .Edit → Book S → Verdict
-  bookRule e b =
+  unfoldable pub bookEditRule : S .Edit → Book S → Verdict
+  bookEditRule e b =
       S .refuses e (b .roomSize) (bookFile b)
       then unless (leb (entrySize (entryOf (bookFile b) (S .applied e (bookFile b)))) (b .historySize)) 37 0
 
@@ -90,8 +90,8 @@ module _ (S : Setting) where
   withoutLast (s ∷ []) = []
   withoutLast (s ∷ (t ∷ l)) = s ∷ withoutLast (t ∷ l)
 
-  unfoldable pub undoRule : Book S → Verdict
-  undoRule b = unless (anyKept (b .standing)) 38 0
+  unfoldable pub bookUndoRule : Book S → Verdict
+  bookUndoRule b = unless (anyKept (b .standing)) 38 0
 
   unfoldable pub afterUndo : Verdict → Book S → Book S
   afterUndo verdict.Good b = withStanding (withoutLast (b .standing)) b
@@ -109,12 +109,12 @@ module _ (S : Setting) where
   answerBy (verdict.Refused n p) b = Refused n p
 
   unfoldable pub bookNext : Call S → Book S → Book S
-  bookNext (edit e) b = afterEdit (bookRule e b) e b
-  bookNext undo b = afterUndo (undoRule b) b
+  bookNext (edit e) b = afterEdit (bookEditRule e b) e b
+  bookNext undo b = afterUndo (bookUndoRule b) b
 
   unfoldable pub bookAnswer : Call S → Book S → Answer
-  bookAnswer (edit e) b = answerBy (bookRule e b) (bookNext (edit e) b)
-  bookAnswer undo b = answerBy (undoRule b) (bookNext undo b)
+  bookAnswer (edit e) b = answerBy (bookEditRule e b) (bookNext (edit e) b)
+  bookAnswer undo b = answerBy (bookUndoRule b) (bookNext undo b)
 
   -- ---- a list of calls
 

@@ -1,9 +1,10 @@
 -- The entry of a change, and the change taken back (document 01, "The history").
 use Prim.Native.Nat.{ℕ, _+_, _-_}
-use mathlib.Core.List.{List, _++_}
-use lib.ListN.{length, take, drop}
+use mathlib.Core.List.{List}
+use lib.ListN.{length, drop}
 use Rattle.fields.specs.Bytes.{part}
 use Rattle.moves.specs.Common.{commonStart, commonEnd}
+use Rattle.moves.specs.Splice.{cut}
 use Rattle.journal.specs.Entry.{Entry}
 
 -- p is the longest common beginning of the old and new file; s is the longest common ending of what follows it in each
@@ -11,14 +12,12 @@ unfoldable pub tailOf : List ℕ → List ℕ → ℕ
 tailOf old new = commonEnd (drop (commonStart old new) old) (drop (commonStart old new) new)
 
 -- k and m are the lengths between, in the new and the old file; the m bytes are the old ones
+abbrev pub entryBetween : ℕ → ℕ → List ℕ → List ℕ → Entry
+entryBetween p s old new = record { place = p; put = length new - (p + s); old = part old p (length old - (p + s)) }
+
 unfoldable pub entryOf : List ℕ → List ℕ → Entry
-entryOf old new =
-    record {
-      place = commonStart old new;
-      put = length new - (commonStart old new + tailOf old new);
-      old = part old (commonStart old new) (length old - (commonStart old new + tailOf old new));
-    }
+entryOf old new = entryBetween (commonStart old new) (tailOf old new) old new
 
 -- undo puts the m bytes in place of the k bytes at p
 unfoldable pub revert : Entry → List ℕ → List ℕ
-revert e new = take (e .place) new ++ (e .old ++ drop (e .place + e .put) new)
+revert e new = cut new (e .place) (e .put) (e .old)

@@ -5,7 +5,7 @@ use mathlib.Core.List.{List, [], _∷_, _++_}
 use lib.ListN.{length, take, drop}
 use lib.Dec.{leb}
 use Rattle.fields.specs.Bytes.{zeros}
-use Rattle.fields.specs.Rule.{_then_, unless}
+use Rattle.fields.specs.Rule.{_then_, unless, isGood}
 use Rattle.fields.specs.declared.rule.Verdict.{Verdict}
 use Rattle.fields.specs.declared.rule.Verdict.the-variants as verdict
 use Rattle.journal.specs.Entry.{Entry, Entries, whole, broken, entriesOf, entrySize, historyBytes}
@@ -41,8 +41,8 @@ opened f spare h = record { room = f ++ spare; length-in-room = length f; histor
 unfoldable pub fileOf : State → List ℕ
 fileOf m = take (m .length-in-room) (m .room)
 
-unfoldable pub entriesIn : State → Entries
-entriesIn m = entriesOf (take (m .length-in-history) (m .history))
+unfoldable pub historyOf : State → Entries
+historyOf m = entriesOf (take (m .length-in-history) (m .history))
 
 unfoldable pub isWhole : Entries → Verdict
 isWhole (whole es) = verdict.Good
@@ -52,7 +52,7 @@ unfoldable pub stands : Setting → State → Verdict
 stands S m =
     unless (leb (m .length-in-room) (length (m .room)) && leb (m .length-in-history) (length (m .history))) 30 0
     then S .accepts (fileOf m)
-    then isWhole (entriesIn m)
+    then isWhole (historyOf m)
 
 -- ---- outcomes
 
@@ -87,13 +87,9 @@ editOutcome S e m verdict.Good (whole es) =
 editOutcome S e m verdict.Good broken = refused 31 0 m
 
 unfoldable pub editStep : (S : Setting) → S .Edit → State → Outcome
-editStep S e m = editOutcome S e m (editRule S e m) (entriesIn m)
+editStep S e m = editOutcome S e m (editRule S e m) (historyOf m)
 
 -- ---- an undo: 30, the codeplug's own, 31, 38 where the history is empty, 39 where its top entry does not fit
-
-unfoldable pub isGood : Verdict → Bool
-isGood verdict.Good = mathlib.Core.Bool.true
-isGood (verdict.Refused n p) = mathlib.Core.Bool.false
 
 -- p + k stays within the codeplug, the result within the room, and reading it does not refuse
 unfoldable pub entryFits : Setting → Entry → State → Bool
@@ -101,15 +97,23 @@ entryFits S e m =
     leb (e .place + e .put) (m .length-in-room)
     && (leb (length (revert e (fileOf m))) (length (m .room)) && isGood (S .accepts (revert e (fileOf m))))
 
--- (at Good the history is whole entries: `stands` has judged it)
+unfoldable pub topRule : Setting → Entries → State → Verdict
+topRule S broken m = verdict.Refused 31 0
+topRule S (whole []) m = verdict.Refused 38 0
+topRule S (whole (e ∷ es)) m = unless (entryFits S e m) 39 0
+
+unfoldable pub undoRule : Setting → State → Verdict
+undoRule S m = stands S m then topRule S (historyOf m) m
+
+-- (at Good the history has a top entry: `undoRule` has judged it)
 unfoldable pub undoOutcome : Setting → State → Verdict → Entries → Outcome
 undoOutcome S m (verdict.Refused n p) t = refused n p m
-undoOutcome S m verdict.Good broken = refused 31 0 m
+undoOutcome S m verdict.Good (whole (e ∷ es)) = done (revert e (fileOf m)) es m
 undoOutcome S m verdict.Good (whole []) = refused 38 0 m
-undoOutcome S m verdict.Good (whole (e ∷ es)) = cond (entryFits S e m) (done (revert e (fileOf m)) es m) (refused 39 0 m)
+undoOutcome S m verdict.Good broken = refused 31 0 m
 
 unfoldable pub undoStep : Setting → State → Outcome
-undoStep S m = undoOutcome S m (stands S m) (entriesIn m)
+undoStep S m = undoOutcome S m (undoRule S m) (historyOf m)
 
 -- ---- a list of calls on the same two buffers
 

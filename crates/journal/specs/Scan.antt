@@ -3,10 +3,17 @@ use Prim.Native.Nat.{ℕ, _-_}
 use mathlib.Core.List.{List}
 use lib.ListN.{length}
 use Rattle.journal.specs.Entry.{Entry, Front, front, none, Entries, whole, broken, historyBytes}
-use Rattle.journal.specs.History.{kept}
+use Rattle.journal.specs.History.{fittingRun}
 use Rattle.journal.specs.declared.scan.EntryRead.{EntryRead}
 use Rattle.journal.specs.declared.scan.EntryRead.the-variants as read
 use Rattle.journal.specs.declared.scan.Run.{Run}
+use Rattle.journal.specs.declared.scan.HistoryRead.{HistoryRead}
+use Rattle.journal.specs.declared.scan.HistoryRead.the-variants as history
+
+-- how many entries bytes hold, or that they are not whole entries
+unfoldable pub numberOfEntries : Entries → HistoryRead
+numberOfEntries (whole es) = history.Entries (length es)
+numberOfEntries broken = history.Broken
 
 -- the entry at the front of the rest of a history of n bytes: its old bytes end where what follows it begins
 unfoldable pub headOf : Front → ℕ → EntryRead
@@ -22,5 +29,5 @@ headOf none n = read.Broken
 
 -- the run of entries that is kept within so many bytes
 unfoldable pub runOf : Entries → ℕ → Run
-runOf (whole es) room = record { bytes = length (historyBytes (kept room es)); entries = length (kept room es) }
+runOf (whole es) room = record { bytes = length (historyBytes (fittingRun room es)); entries = length (fittingRun room es) }
 runOf broken room = record { bytes = 0; entries = 0 }

@@ -13,7 +13,7 @@ ghost use lib.ListN.{length, take};
 ghost use Rattle.fields.specs.Bytes.{over};
 ghost use Rattle.journal.specs.Number.{numberBytes};
 ghost use Rattle.journal.specs.Entry.{entriesOf, entryBytes, historyBytes};
-ghost use Rattle.journal.specs.History.{counted};
+ghost use Rattle.journal.specs.Scan.{numberOfEntries};
 ghost use Rattle.journal.specs.declared.scan.HistoryRead.the-variants.{Broken};
 ghost use Rattle.journal.specs.Machine.{holding};
 ghost use Rattle.journal.specs.Span.{Sound, spanSize, entryFrom, recordedIn};
@@ -72,7 +72,7 @@ fn put_first(d: &mut [u8], used: usize, n: usize, s: Span, old: &[u8])
 
 // Puts an entry first and keeps the longest run of earlier ones that still fits; what lies between the new and the old length is zeroed.
 pub fn record_entry(d: &mut [u8], used: usize, s: Span, old: &[u8]) -> Run
-    requires { ⌜ ((Sound s × (length (now old) ≡ s .taken)) × (spanSize s ≤ length (now d))) × ((used ≤ length (now d)) × (counted (entriesOf (take used (now d))) ≡ Broken → ⊥)) ⌝ }
+    requires { ⌜ ((Sound s × (length (now old) ≡ s .taken)) × (spanSize s ≤ length (now d))) × ((used ≤ length (now d)) × (numberOfEntries (entriesOf (take used (now d))) ≡ Broken → ⊥)) ⌝ }
     ensures history { λ _. ⌜ now (d .exit) ≡ holding (now (d .entry)) used (historyBytes (recordedIn (length (now (d .entry))) (entryFrom s (now (old .entry))) (entriesOf (take used (now (d .entry)))))) ⌝ }
     ensures left { λ r. ⌜ r ≡ record { bytes = length (historyBytes (recordedIn (length (now (d .entry))) (entryFrom s (now (old .entry))) (entriesOf (take used (now (d .entry)))))); entries = length (recordedIn (length (now (d .entry))) (entryFrom s (now (old .entry))) (entriesOf (take used (now (d .entry))))) } ⌝ }
 {

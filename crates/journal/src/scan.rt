@@ -5,8 +5,7 @@ ghost use mathlib.Core.Path.{_≡_};
 ghost use Prim.Native.Nat.{_+_, _≤_};
 ghost use lib.ListN.{length, drop, take};
 ghost use Rattle.journal.specs.Entry.{frontOf, entriesOf, historyBytes, Entries};
-ghost use Rattle.journal.specs.History.{kept, counted};
-ghost use Rattle.journal.specs.Scan.{headOf, runOf};
+ghost use Rattle.journal.specs.Scan.{numberOfEntries, headOf, runOf};
 
 // Where an entry's parts stand: its place and lengths, its old bytes' place and the place after it.
 pub struct EntryHead {
@@ -63,7 +62,7 @@ pub fn entry_at(s: &[u8], k: usize) -> EntryRead
 
 // How many entries a history holds, or that it is not whole entries.
 pub fn entries_in(s: &[u8]) -> HistoryRead
-    ensures { λ r. ⌜ r ≡ counted (entriesOf (now (s .entry))) ⌝ }
+    ensures { λ r. ⌜ r ≡ numberOfEntries (entriesOf (now (s .entry))) ⌝ }
 {
     let mut k = 0;
     let mut n = 0;
@@ -81,7 +80,7 @@ pub fn entries_in(s: &[u8]) -> HistoryRead
 
 // The longest run of a history's entries, from the front, within so many bytes.
 pub fn fitting(s: &[u8], room: usize) -> Run
-    requires { ⌜ (counted (entriesOf (now s)) ≡ HistoryRead.Broken → ⊥) ⌝ }
+    requires { ⌜ (numberOfEntries (entriesOf (now s)) ≡ HistoryRead.Broken → ⊥) ⌝ }
     ensures { λ r. ⌜ r ≡ runOf (entriesOf (now (s .entry))) room ⌝ }
 {
     let mut bytes = 0;

@@ -4,7 +4,8 @@ ghost use mathlib.Core.Bool.{true};
 ghost use Prim.Native.Nat.{_+_, _≤_};
 ghost use lib.ListN.{length};
 ghost use Rattle.fields.specs.Bytes.{part};
-ghost use Rattle.moves.specs.Common.{commonStart, commonEnd, StartTo, EndTo};
+ghost use Rattle.moves.specs.Common.{commonStart, commonEnd};
+ghost use Rattle.moves.specs.CommonScan.{StartTo, EndTo};
 
 // Whether 32 bytes of each agree. No early exit, so that it vectorises.
 fn same32(a: &[u8], i: usize, b: &[u8], j: usize) -> bool

@@ -5,7 +5,7 @@ use mathlib.Core.List.{List, [], _∷_, _++_, map}
 use lib.ListN.{length, take, drop, getD}
 use lib.Dec.{leb, ltb, eqb}
 use Rattle.fields.specs.Bytes.{part, num, over, littleBytes, little}
-use Rattle.channel.specs.Channel.{namedContact}
+use Rattle.channel.specs.Channel.{dmrContactAt, m17ContactAt, namedContact}
 use Rattle.channel.specs.declared.ContactIndex.{ContactIndex}
 use Rattle.channel.specs.declared.ContactIndex.the-variants.{Nobody, Index}
 use Rattle.plug.specs.declared.Kind.{Kind}
@@ -81,8 +81,8 @@ withIndexAt k move s = over s k (littleBytes 2 (move (num s k 2)))
 
 unfoldable pub moveContact : (ℕ → ℕ) → List ℕ → List ℕ
 moveContact move s =
-    cond (eqb (getD s 0 0) 1) (withIndexAt 87 move s)
-    (cond (eqb (getD s 0 0) 2) (withIndexAt 88 move s)
+    cond (eqb (getD s 0 0) 1) (withIndexAt dmrContactAt move s)
+    (cond (eqb (getD s 0 0) 2) (withIndexAt m17ContactAt move s)
     s)
 
 unfoldable pub moveEntries : (ℕ → ℕ) → Bank → Bank
@@ -138,33 +138,45 @@ entriesIn i [] = 0
 entriesIn zero (b ∷ l) = length (b .entries)
 entriesIn (suc i) (b ∷ l) = entriesIn i l
 
--- 33: an insertion's place runs from 0 to the count, any other stays below it; an unused place must be 0
+-- 33: an insertion's place runs from 0 to the count, any other stays below it, an unused one must be 0
+abbrev pub insertion : ℕ → ℕ → Bool
+insertion place count = leb place count
+
+abbrev pub existing : ℕ → ℕ → Bool
+existing place count = ltb place count
+
+abbrev pub unused : ℕ → Bool
+unused place = eqb place 0
+
 unfoldable pub placeOk : Kind → ℕ → ℕ → Plug → Bool
-placeOk InsertContact i j c = leb i (length (c .contacts)) && eqb j 0
-placeOk RemoveContact i j c = ltb i (length (c .contacts)) && eqb j 0
-placeOk ReplaceContact i j c = ltb i (length (c .contacts)) && eqb j 0
-placeOk InsertChannel i j c = leb i (length (c .channels)) && eqb j 0
-placeOk RemoveChannel i j c = ltb i (length (c .channels)) && eqb j 0
-placeOk ReplaceChannel i j c = ltb i (length (c .channels)) && eqb j 0
-placeOk InsertBank i j c = leb i (length (c .banks)) && eqb j 0
-placeOk RemoveBank i j c = ltb i (length (c .banks)) && eqb j 0
-placeOk RenameBank i j c = ltb i (length (c .banks)) && eqb j 0
-placeOk InsertEntry i j c = ltb i (length (c .banks)) && leb j (entriesIn i (c .banks))
-placeOk RemoveEntry i j c = ltb i (length (c .banks)) && ltb j (entriesIn i (c .banks))
-placeOk SetTitle i j c = eqb i 0 && eqb j 0
+placeOk InsertContact i j c = insertion i (length (c .contacts)) && unused j
+placeOk RemoveContact i j c = existing i (length (c .contacts)) && unused j
+placeOk ReplaceContact i j c = existing i (length (c .contacts)) && unused j
+placeOk InsertChannel i j c = insertion i (length (c .channels)) && unused j
+placeOk RemoveChannel i j c = existing i (length (c .channels)) && unused j
+placeOk ReplaceChannel i j c = existing i (length (c .channels)) && unused j
+placeOk InsertBank i j c = insertion i (length (c .banks)) && unused j
+placeOk RemoveBank i j c = existing i (length (c .banks)) && unused j
+placeOk RenameBank i j c = existing i (length (c .banks)) && unused j
+placeOk InsertEntry i j c = existing i (length (c .banks)) && insertion j (entriesIn i (c .banks))
+placeOk RemoveEntry i j c = existing i (length (c .banks)) && existing j (entriesIn i (c .banks))
+placeOk SetTitle i j c = unused i && unused j
 
 -- 34: the count to grow is 65,535
+abbrev pub canGrow : ℕ → Bool
+canGrow count = not (eqb count 65535)
+
 unfoldable pub countOk : Kind → ℕ → Plug → Bool
-countOk InsertContact i c = not (eqb (length (c .contacts)) 65535)
+countOk InsertContact i c = canGrow (length (c .contacts))
 countOk RemoveContact i c = true
 countOk ReplaceContact i c = true
-countOk InsertChannel i c = not (eqb (length (c .channels)) 65535)
+countOk InsertChannel i c = canGrow (length (c .channels))
 countOk RemoveChannel i c = true
 countOk ReplaceChannel i c = true
-countOk InsertBank i c = not (eqb (length (c .banks)) 65535)
+countOk InsertBank i c = canGrow (length (c .banks))
 countOk RemoveBank i c = true
 countOk RenameBank i c = true
-countOk InsertEntry i c = not (eqb (entriesIn i (c .banks)) 65535)
+countOk InsertEntry i c = canGrow (entriesIn i (c .banks))
 countOk RemoveEntry i c = true
 countOk SetTitle i c = true
 
@@ -178,13 +190,13 @@ someNames i [] = false
 someNames i (s ∷ l) = isIndex i (namedContact s) || someNames i l
 
 -- 35: some bank holds channel i
-unfoldable pub holds : ℕ → List ℕ → Bool
-holds i [] = false
-holds i (x ∷ l) = eqb x i || holds i l
+unfoldable pub holdsChannel : ℕ → List ℕ → Bool
+holdsChannel i [] = false
+holdsChannel i (x ∷ l) = eqb x i || holdsChannel i l
 
 unfoldable pub someHolds : ℕ → List Bank → Bool
 someHolds i [] = false
-someHolds i (b ∷ l) = holds i (b .entries) || someHolds i l
+someHolds i (b ∷ l) = holdsChannel i (b .entries) || someHolds i l
 
 unfoldable pub inUse : Kind → ℕ → Plug → Bool
 inUse InsertContact i c = false

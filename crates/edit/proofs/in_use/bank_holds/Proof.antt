@@ -3,7 +3,7 @@ use Prim.Native.Nat.{_+_, _*_, _-_, _≤_}
 use mathlib.Core.Path.{_≡_, sym, _∙_}
 use native.Mathlib.Nat.{sub-zero}
 use Rattle.plug.specs.Plug.{indexesAt}
-use Rattle.plug.specs.Edits.{holds}
+use Rattle.plug.specs.Edits.{holdsChannel}
 use Rattle.edit.proofs.InUse.{holds-none, holds-found, holds-next}
 use borrow.Author.Needs.{needs}
 use native.Mathlib.Omega.{arith}
@@ -12,7 +12,7 @@ use Rattle.edit.proofs.in_use.bank_holds.Tie as tie
 
 abbrev Inv-loop : tie.InvT-loop
 Inv-loop f n start i j₀ p₀ j p =
-    (j ≤ n) × ((p ≡ start + j * 2) × (holds i (indexesAt f n start) ≡ holds i (indexesAt f (n - j) p)))
+    (j ≤ n) × ((p ≡ start + j * 2) × (holdsChannel i (indexesAt f n start) ≡ holdsChannel i (indexesAt f (n - j) p)))
 
 abbrev μ-loop : tie.MeasureT-loop
 μ-loop f n start i j₀ p₀ j p = n - j

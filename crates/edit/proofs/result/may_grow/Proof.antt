@@ -1,5 +1,5 @@
 -- The length after it against the longest file.
-use Rattle.edit.specs.Result.{mayGrow}
+use Rattle.edit.specs.Foretold.{mayGrow}
 use borrow.Author.Needs.{needs}
 use Rattle.edit.proofs.result.may_grow.Statement.{statement}
 use Rattle.edit.proofs.result.may_grow.Tie as tie

@@ -1,6 +1,6 @@
 -- Each arm knows its kind; what is taken away is there, since the place is.
 use Rattle.codeplug.proofs.Laws.{file-header}
-use Rattle.edit.specs.Result.{resultLength}
+use Rattle.edit.specs.Foretold.{resultLength}
 use Rattle.edit.proofs.LengthLaws.{bank-fits, channel-fits}
 use Rattle.edit.proofs.VerdictLaws.{remove-channel-place, remove-bank-place}
 use native.Mathlib.Omega.{arith}

@@ -2,7 +2,7 @@
 use mathlib.Core.Path.{ap, _∙_}
 use Rattle.fields.proofs.Laws.{AllBytes}
 use Rattle.plug.specs.Edits.{recordLength}
-use Rattle.edit.specs.Result.{resultRule}
+use Rattle.edit.specs.Foretold.{resultRule}
 use Rattle.edit.proofs.VerdictLaws.{insert-contact-place, replace-contact-place, insert-channel-place, replace-channel-place, insert-bank-place, rename-bank-place, insert-entry-place}
 use native.Mathlib.Omega.{arith}
 use borrow.Author.Needs.{needs}

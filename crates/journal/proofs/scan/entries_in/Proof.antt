@@ -5,14 +5,14 @@ use native.Mathlib.Omega.{arith}
 use lib.ListN.{length, drop}
 use borrow.Author.Needs.{needs}
 use Rattle.journal.specs.Entry.{frontOf, none, entriesOf}
-use Rattle.journal.specs.History.{counted}
+use Rattle.journal.specs.Scan.{numberOfEntries}
 use Rattle.journal.proofs.ScanLaws.{HeadRead, head-read, head-broken}
 use Rattle.journal.proofs.ScanLaws.{added, counted-start, counted-turn, counted-stop, counted-end}
 use Rattle.journal.proofs.scan.entries_in.Statement.{statement}
 use Rattle.journal.proofs.scan.entries_in.Tie as tie
 
 abbrev Inv-loop : tie.InvT-loop
-Inv-loop s k₀ n₀ k n = ((k ≤ length s) × (n ≤ k)) × (counted (entriesOf s) ≡ added n (counted (entriesOf (drop k s))))
+Inv-loop s k₀ n₀ k n = ((k ≤ length s) × (n ≤ k)) × (numberOfEntries (entriesOf s) ≡ added n (numberOfEntries (entriesOf (drop k s))))
 
 abbrev μ-loop : tie.MeasureT-loop
 μ-loop s k₀ n₀ k n = length s - k

@@ -3,7 +3,7 @@ use borrow.Author.Needs.{needs}
 use native.Mathlib.Omega.{arith}
 use Prim.Native.Nat.{_-_}
 use lib.ListN.{length}
-use Rattle.moves.specs.Common.{EndTo}
+use Rattle.moves.specs.CommonScan.{EndTo}
 use mathlib.Core.Logic.{inl, inr}
 use Rattle.moves.proofs.Laws.{end-byte, end-end, end-stop}
 use Rattle.moves.proofs.common.common_end.Statement.{statement}

@@ -3,7 +3,7 @@ use borrow.Author.Needs.{needs}
 use native.Mathlib.Omega.{arith}
 use Prim.Native.Nat.{_-_}
 use lib.ListN.{length}
-use Rattle.moves.specs.Common.{StartTo}
+use Rattle.moves.specs.CommonScan.{StartTo}
 use mathlib.Core.Logic.{inl, inr}
 use Rattle.moves.proofs.Laws.{start-byte, start-end, start-stop}
 use Rattle.moves.proofs.common.common_start.Statement.{statement}

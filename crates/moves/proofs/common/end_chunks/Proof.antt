@@ -2,7 +2,7 @@
 use native.Mathlib.Omega.{arith}
 use Prim.Native.Nat.{_-_}
 use lib.ListN.{length}
-use Rattle.moves.specs.Common.{EndTo}
+use Rattle.moves.specs.CommonScan.{EndTo}
 use borrow.Author.Tests.{not-false}
 use Rattle.moves.proofs.Laws.{end-none, end-more}
 use Rattle.moves.proofs.common.end_chunks.Statement.{statement}

@@ -2,7 +2,7 @@
 use native.Mathlib.Omega.{arith}
 use Prim.Native.Nat.{_-_}
 use lib.ListN.{length}
-use Rattle.moves.specs.Common.{StartTo}
+use Rattle.moves.specs.CommonScan.{StartTo}
 use borrow.Author.Tests.{not-false}
 use Rattle.moves.proofs.Laws.{start-none, start-more}
 use Rattle.moves.proofs.common.start_chunks.Statement.{statement}
