@@ -2,7 +2,7 @@
 from dataclasses import asdict, dataclass
 
 from codeplug_c import ChannelCommon, ChannelInfo, ContactValues, buffer, c_uint64, filled, fit, library
-from codeplug_refused import Refused, good
+from codeplug_refused import good
 
 BROADCAST = 0xFFFFFFFFFFFF
 NOBODY = 65535
@@ -146,14 +146,12 @@ def info_values(channel):
 
 
 def write_channel(channel):
-    """A channel's record. Refusals: 7 and 5 by field, then 9 for a contact at 65,535, which is no place and would be read as nobody.
-    Whether another contact is there, only the file can say."""
+    """A channel's record. Refusals: 7 and 5 by field. A contact of 65,535 is nobody, as in a file; whether another contact is there,
+    only the file can say."""
     name, description, out = bytes_of(channel.name), bytes_of(channel.description), buffer(CHANNEL_SIZE)
     common = filled(ChannelCommon, **{field: getattr(channel, field) for field, _ in ChannelCommon._fields_})
     info = info_values(channel)
     good(library.codeplug_write_channel(out, len(out), name, len(name), description, len(description), common, info))
-    if channel.mode != 0 and channel.info.contact == NOBODY:
-        raise Refused(9, 87 if channel.mode == 1 else 88)
     return out.raw
 
 

@@ -179,8 +179,8 @@ class Records(Case):
         self.assertEqual(write_channel(dmr_channel(None))[85:], bytes([0x1F, 2, 255, 255, 0]))
         self.assertEqual(write_channel(dmr_channel(0))[85:], bytes([0x1F, 2, 0, 0, 0]))
         self.assertEqual(write_channel(m17_channel(None))[85:], bytes([0xF1, 0x32, 1, 255, 255]))
-        self.refused(9, 87, write_channel, dmr_channel(65535))
-        self.refused(9, 88, write_channel, m17_channel(65535))
+        self.assertEqual(write_channel(dmr_channel(65535)), write_channel(dmr_channel(None)))
+        self.assertEqual(write_channel(m17_channel(65535)), write_channel(m17_channel(None)))
         self.assertEqual(write_channel(fm(info=FmInfo(None, 0, 31, 9)))[85:], bytes([31, 0x80, 0, 0, 0]))
 
     def test_numbers_that_do_not_fit(self):
@@ -255,7 +255,6 @@ class Editing(Case):
         self.assertEqual(self.plug.entries(0), [1, 2, 5, 6, 3])
         self.plug.insert_channel(11, dmr_channel(None))
         self.kept(9, 322 + 87, self.plug.insert_channel, 0, dmr_channel(6))
-        self.kept(9, 87, self.plug.insert_channel, 0, dmr_channel(65535))
         self.kept(33, 0, self.plug.insert_channel, 13, fm())
 
     def test_remove_channel(self):

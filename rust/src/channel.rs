@@ -152,8 +152,8 @@ impl Channel {
     }
 }
 
-/// A channel's record. Refusals: 7 and 5 by field, then 9 for a contact at 65,535, which is no place and would be read as nobody. Whether
-/// another contact is there, only the file can say.
+/// A channel's record. Refusals: 7 and 5 by field. A contact of 65,535 is nobody, as in a file; whether another contact is there, only the
+/// file can say.
 pub fn write_channel(channel: &Channel) -> Result<[u8; CHANNEL_SIZE], Refused> {
     let mut out = [0; CHANNEL_SIZE];
     let (name, description) = (channel.name.as_bytes(), channel.description.as_bytes());
@@ -169,10 +169,5 @@ pub fn write_channel(channel: &Channel) -> Result<[u8; CHANNEL_SIZE], Refused> {
             channel.info.to_c(),
         )
     };
-    unless(a.number, a.place, ())?;
-    match channel.info {
-        Info::Dmr { contact: Some(NOBODY), .. } => Err(Refused { number: 9, place: 87 }),
-        Info::M17 { contact: Some(NOBODY), .. } => Err(Refused { number: 9, place: 88 }),
-        _ => Ok(out),
-    }
+    unless(a.number, a.place, out)
 }

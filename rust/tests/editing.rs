@@ -68,7 +68,6 @@ fn insert_channel() {
     assert_eq!(plug.entries(0), Ok(vec![1, 2, 5, 6, 3]));
     plug.insert_channel(11, &dmr_channel(None)).unwrap();
     refused(&mut plug, 9, 322 + 87, |p| p.insert_channel(0, &dmr_channel(Some(6))));
-    refused(&mut plug, 9, 87, |p| p.insert_channel(0, &dmr_channel(Some(65_535))));
     refused(&mut plug, 33, 0, |p| p.insert_channel(13, &fm("")));
     taken_back(plug);
 }

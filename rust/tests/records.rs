@@ -57,8 +57,8 @@ fn blanks() {
     assert_eq!(nobody[85..], [0x1F, 2, 0xFF, 0xFF, 0]);
     assert_eq!(write_channel(&dmr_channel(Some(0))).unwrap()[85..], [0x1F, 2, 0, 0, 0]);
     assert_eq!(write_channel(&m17_channel(None)).unwrap()[85..], [0xF1, 0x32, 1, 0xFF, 0xFF]);
-    assert_eq!(write_channel(&dmr_channel(Some(65_535))), no(9, 87));
-    assert_eq!(write_channel(&m17_channel(Some(65_535))), no(9, 88));
+    assert_eq!(write_channel(&dmr_channel(Some(65_535))), write_channel(&dmr_channel(None)));
+    assert_eq!(write_channel(&m17_channel(Some(65_535))), write_channel(&m17_channel(None)));
     let info = Info::Fm { receive_tone: Tone::Disabled(31), transmit_tone: Tone::Enabled(0) };
     assert_eq!(write_channel(&Channel { info, ..fm("") }).unwrap()[85..], [31, 0x80, 0, 0, 0]);
 }

@@ -395,7 +395,7 @@ mod tests {
         covers(
             "channels",
             &["fm", "dmr", "m17", "wrote"],
-            &[2, 5, 6, 7, 9, 25],
+            &[2, 5, 6, 7, 25],
         );
         covers(
             "addresses",

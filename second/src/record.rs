@@ -296,8 +296,8 @@ impl Channel {
     }
 
     /// Writes the record over the first 90 bytes of `out`: 25, then the
-    /// fields in order. A contact index is judged in the whole file only,
-    /// but 65,535 given as a contact is 9, since it would be read as none.
+    /// fields in order. A contact index is judged in the whole file only;
+    /// 65,535 given as a contact is written as it stands, which means none.
     pub fn write(&self, out: &mut [u8]) -> Result<(), Refusal> {
         let out = out
             .first_chunk_mut::<CHANNEL_SIZE>()
@@ -326,7 +326,7 @@ impl Channel {
             } => {
                 record.byte(85, join_halves(rx_colour, tx_colour))?;
                 record.byte(86, Some(timeslot).filter(|n| matches!(n, 1 | 2)))?;
-                record.contact_index(87, contact)?;
+                record.contact_index(87, contact);
             }
             ChannelInfo::M17 {
                 rx_access,
@@ -339,7 +339,7 @@ impl Channel {
                 record.byte(85, join_halves(rx_access, tx_access))?;
                 record.byte(86, join_operation(operation, encryption))?;
                 record.put(87, [u8::from(send_position)]);
-                record.contact_index(88, contact)?;
+                record.contact_index(88, contact);
             }
         }
         *out = record.0;
@@ -423,9 +423,7 @@ impl<const SIZE: usize> Draft<SIZE> {
         Ok(())
     }
 
-    fn contact_index(&mut self, at: usize, contact: Option<u16>) -> Result<(), Refusal> {
-        ensure(contact != Some(NO_CONTACT), Reason::ContactIndex, at)?;
+    fn contact_index(&mut self, at: usize, contact: Option<u16>) {
         self.put(at, contact.unwrap_or(NO_CONTACT).to_le_bytes());
-        Ok(())
     }
 }

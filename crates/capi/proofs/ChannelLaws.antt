@@ -30,11 +30,17 @@ unfolding written _then_
 stopped Good n p out s = refl
 stopped (Refused m q) n p out s = refl
 
+-- a test that was passed before
+again : (b : Bool) (n p : ℕ) (v : Verdict) → (unless b n p then (unless b n p then v)) ≡ (unless b n p then v)
+unfolding unless _then_
+again true n p v = refl
+again false n p v = refl
+
 module _ (out name description : List ℕ) (common : CommonFields) (info : InfoFields) where
   asked-known : info .mode ≤ 2
       → channelAsked (length out) name description common info ≡ channelGiven (length out) name description (commonFrom common) (infoFrom info)
   unfolding channelAsked channelGiven unless _then_
-  asked-known h = rw (mode-known (info .mode) h)
+  asked-known h = rw (mode-known (info .mode) h) (again (leb 90 (length out)) 25 0 _)
 
   asked-foreign : 2 < info .mode → channelAsked (length out) name description common info ≡ unless (leb 90 (length out)) 25 0 then Refused 6 0
   unfolding channelAsked unless _then_

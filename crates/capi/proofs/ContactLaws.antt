@@ -27,10 +27,18 @@ pub mode-foreign : (m : ℕ) → (m ≡ 1 → ⊥) → (m ≡ 2 → ⊥) → mod
 unfolding modeOk
 mode-foreign m one two = rw (ne-eqb m 1 one, ne-eqb m 2 two)
 
+-- two tests that were passed before
+again : (a b : Bool) (m n p q : ℕ) (v : Verdict)
+    → (unless a m p then unless b n q then unless a m p then unless b n q then v) ≡ (unless a m p then unless b n q then v)
+unfolding unless _then_
+again true true m n p q v = refl
+again true false m n p q v = refl
+again false b m n p q v = refl
+
 asked-known : (size : ℕ) (name : List ℕ) (v : ContactFields) → modeOk (v .mode) ≡ true
     → contactAsked size name v ≡ contactGiven size name (infoFrom v)
 unfolding contactAsked contactGiven unless _then_
-asked-known size name v ok = rw ok
+asked-known size name v ok = rw ok (again (leb 39 size) (givenOk name) 25 5 0 0 _)
 
 asked-foreign : (size : ℕ) (name : List ℕ) (v : ContactFields) → modeOk (v .mode) ≡ false
     → contactAsked size name v ≡ unless (leb 39 size) 25 0 then unless (givenOk name) 5 0 then Refused 6 32

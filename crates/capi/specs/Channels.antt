@@ -4,14 +4,13 @@ use mathlib.Core.Bool.{Bool, true, false, cond}
 use mathlib.Core.List.{List, [], _++_}
 use lib.ListN.{length}
 use lib.Dec.{leb, eqb}
-use Rattle.fields.specs.Text.{givenOk}
 use Rattle.fields.specs.Rule.{_then_, unless, written}
 use Rattle.fields.specs.declared.rule.Verdict.{Verdict}
 use Rattle.fields.specs.declared.rule.Verdict.the-variants.{Refused}
 use Rattle.tones.specs.Tone.{toneIndex}
 use Rattle.tones.specs.declared.Tone.{Tone}
 use Rattle.tones.specs.declared.Tone.the-variants.{Enabled, Disabled}
-use Rattle.channel.specs.Channel.{modeOk, contactIndexOf, contactIndexNumber, channelAnswer, headGiven, locationGiven, infoGiven, channelBytes}
+use Rattle.channel.specs.Channel.{modeOk, contactIndexOf, contactIndexNumber, channelAnswer, channelGiven, channelBytes}
 use Rattle.channel.specs.declared.Common.{Common}
 use Rattle.channel.specs.declared.Info.{Info}
 use Rattle.channel.specs.declared.Info.the-variants.{Fm, Dmr, M17}
@@ -159,16 +158,12 @@ infoFrom v =
       contact = contactIndexOf (v .contact);
     })))
 
--- 25, then the fields in order, the mode at 0
+-- what the library's writer refuses, the mode judged in its turn: at 0, after 25
 unfoldable pub channelAsked : ℕ → List ℕ → List ℕ → CommonFields → InfoFields → Verdict
 channelAsked size name description common info =
     unless (leb 90 size) 25 0
     then unless (modeOk (info .mode)) 6 0
-    then headGiven (commonFrom common)
-    then unless (givenOk name) 5 13
-    then unless (givenOk description) 5 45
-    then locationGiven (commonFrom common .location)
-    then infoGiven (infoFrom info)
+    then channelGiven size name description (commonFrom common) (infoFrom info)
 
 -- the later contents of the buffer
 unfoldable pub channelLeft : List ℕ → List ℕ → List ℕ → CommonFields → InfoFields → List ℕ

@@ -11,7 +11,7 @@ use Rattle.fields.specs.declared.rule.Verdict.the-variants.{Refused}
 use Rattle.m17.specs.Address.{addressNumber}
 use Rattle.m17.specs.declared.Address.{Address}
 use Rattle.m17.specs.declared.Address.the-variants.{Callsign, Broadcast}
-use Rattle.contact.specs.Contact.{modeOk, contactAnswer, infoGiven, contactBytes}
+use Rattle.contact.specs.Contact.{modeOk, contactAnswer, contactGiven, contactBytes}
 use Rattle.contact.specs.declared.ContactInfo.{ContactInfo}
 use Rattle.contact.specs.declared.ContactInfo.the-variants.{M17, Dmr}
 use Rattle.contact.specs.declared.ContactRead.{ContactRead}
@@ -47,20 +47,20 @@ contactName r name = written (r .verdict) name (r .contact .name)
 
 -- ---- writing
 
--- what the numbers mean, the other mode's unread; only of use where the mode is good
+-- what the numbers mean, the other mode's unread, and the address too where `broadcast` is set; only of use where the mode is good
 unfoldable pub infoFrom : ContactFields → ContactInfo
 infoFrom v =
     cond (eqb (v .mode) 1)
     (Dmr (record { id = v .id; settings = record { kind = v .kind; «rx_tone» = v .«rx_tone» } }))
     (M17 (addressFrom (v .broadcast) (v .address)))
 
--- 25, then the fields in order, the mode at 32
+-- what the library's writer refuses, the mode judged in its turn: at 32, after 25 and the name
 unfoldable pub contactAsked : ℕ → List ℕ → ContactFields → Verdict
 contactAsked size name v =
     unless (leb 39 size) 25 0
     then unless (givenOk name) 5 0
     then unless (modeOk (v .mode)) 6 32
-    then infoGiven (infoFrom v)
+    then contactGiven size name (infoFrom v)
 
 -- the later contents of the buffer
 unfoldable pub contactLeft : List ℕ → List ℕ → ContactFields → List ℕ

@@ -55,6 +55,6 @@ bankTaken r = record { number = numberOf (r .verdict); place = placeOf (r .verdi
 unfoldable pub bankName : BankRead → List ℕ → List ℕ
 bankName r name = written (r .verdict) name (r .bank .name)
 
-unfoldable pub entryAnswer : EntryStep → EntryAnswer
-entryAnswer (step.Entry channel next) = record { number = 0; place = 0; channel = channel; next = next }
-entryAnswer (step.Refused n p) = record { number = n; place = p; channel = 0; next = 0 }
+unfoldable pub entryTaken : EntryStep → EntryAnswer
+entryTaken (step.Entry channel next) = record { number = 0; place = 0; channel = channel; next = next }
+entryTaken (step.Refused n p) = record { number = n; place = p; channel = 0; next = 0 }

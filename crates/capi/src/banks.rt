@@ -12,7 +12,7 @@ ghost use lib.ListN.{length};
 ghost use Rattle.codeplug.specs.Read.{bankRead, entryRead};
 ghost use Rattle.codeplug.specs.Once.{bankOnce, entriesOnce};
 ghost use Rattle.entries.specs.Entry.{entryStep};
-ghost use Rattle.capi.specs.Files.{bankTold, bankTaken, bankName, entryAnswer};
+ghost use Rattle.capi.specs.Files.{bankTold, bankTaken, bankName, entryTaken};
 
 #[repr(C)]
 pub struct BankAnswer {
@@ -87,7 +87,7 @@ pub extern "C" fn codeplug_bank_once(file: &[u8], n: usize, name: &mut [u8]) -> 
 }
 
 fn entry_answer(step: EntryStep) -> EntryAnswer
-    ensures { λ r. ⌜ r ≡ entryAnswer step ⌝ }
+    ensures { λ r. ⌜ r ≡ entryTaken step ⌝ }
 {
     match step {
         EntryStep::Entry(channel, next) => EntryAnswer {
@@ -108,7 +108,7 @@ fn entry_answer(step: EntryStep) -> EntryAnswer
 // Entry i of a bank: its channel's index, and the next place; 0 both beside a refusal.
 #[no_mangle]
 pub extern "C" fn codeplug_bank_entry(file: &[u8], bank: usize, i: usize) -> EntryAnswer
-    ensures { λ r. ⌜ r ≡ entryAnswer (entryRead (now (file .entry)) bank i) ⌝ }
+    ensures { λ r. ⌜ r ≡ entryTaken (entryRead (now (file .entry)) bank i) ⌝ }
 {
     entry_answer(codeplug::bank_entries::entry(file, bank, i))
 }
@@ -116,7 +116,7 @@ pub extern "C" fn codeplug_bank_entry(file: &[u8], bank: usize, i: usize) -> Ent
 // The same of a file that was judged before, without judging it again.
 #[no_mangle]
 pub extern "C" fn codeplug_bank_entry_once(file: &[u8], bank: usize, i: usize) -> EntryAnswer
-    ensures { λ r. ⌜ r ≡ entryAnswer (entryStep (entriesOnce (now (file .entry)) bank) i) ⌝ }
+    ensures { λ r. ⌜ r ≡ entryTaken (entryStep (entriesOnce (now (file .entry)) bank) i) ⌝ }
 {
     entry_answer(entries::entry(codeplug::once::entries(file, bank), i))
 }

@@ -26,7 +26,7 @@ use Rattle.bits.proofs.Laws.{choiceByte-lt, halvesByte-lt, signedByte-lt, choic
 use Rattle.tones.specs.Tone.{toneByte}
 use Rattle.tones.proofs.Laws.{tone-returns, toneOk-byte, toneByte-of, toneGood-of, toneByte-lt}
 use Rattle.channel.specs.Channel.{slotOk, operationOk, encryptionOk}
-use Rattle.channel.specs.Channel.{traitsOf, traitsChoice, latitudeOk, isNinety, fractionOk, latitudeFractionOk, contactIndexOf, contactIndexNumber, contactIndexGood}
+use Rattle.channel.specs.Channel.{traitsOf, traitsChoice, latitudeOk, isNinety, fractionOk, latitudeFractionOk, contactIndexOf, contactIndexNumber}
 use Rattle.channel.specs.Channel.{channelRule, locationOf, commonOf, fmOf, dmrOf, m17Of, infoOf, channelOf}
 use Rattle.channel.specs.Channel.{infoGiven, channelGiven, modeNumber, headBytes, locationBytes, infoBytes, channelBytes}
 use Rattle.channel.specs.declared.Traits.{Traits}
@@ -45,7 +45,7 @@ use Rattle.channel.proofs.WriteLaws.{head-told, location-told, fm-told,
 use Rattle.channel.proofs.WriteLaws.{head-passes, location-passes, fm-passes, dmr-passes, m17-passes}
 use Rattle.channel.proofs.WriteLaws.{long-head, long-padded, long-record}
 
--- ---- the ranges that the Rust types give; the rules bound every other value
+-- ---- what is given beside the rules, which bound every other value
 
 -- the contact index of an info as a number; an FM channel has none
 abbrev pub contactNumber : Info → ℕ
@@ -53,6 +53,17 @@ contactNumber (Fm i) = 65535
 contactNumber (Dmr i) = contactIndexNumber (i .contact)
 contactNumber (M17 i) = contactIndexNumber (i .contact)
 
+-- a contact index in its one form: 65,535 is nobody, and no index
+unfoldable pub contactProper : ContactIndex → Bool
+contactProper Nobody = true
+contactProper (Index x) = not (eqb x 65535)
+
+abbrev pub infoProper : Info → Bool
+infoProper (Fm i) = true
+infoProper (Dmr i) = contactProper (i .contact)
+infoProper (M17 i) = contactProper (i .contact)
+
+-- the ranges that the Rust types give, and a contact index in its form
 pub record Ranges (common : Common) (info : Info) : Type 0 where
   pub power-u8 : common .power < 256
   pub receive-u32 : common .«receive_hz» < 2 ^ 32
@@ -60,6 +71,7 @@ pub record Ranges (common : Common) (info : Info) : Type 0 where
   pub longitude-i8 : SFits w8 (common .location .longitude)
   pub altitude-u16 : common .location .«altitude_plus_500» < 2 ^ 16
   pub contact-u16 : contactNumber info < 2 ^ 16
+  pub contact-proper : infoProper info ≡ true
 
 -- ---- single values
 
@@ -80,8 +92,8 @@ traits-returns : (t : Traits) → choiceGood (traitsChoice t) ≡ true → trait
 unfolding traitsOf traitsChoice
 traits-returns t h = rw (choice-returns (traitsChoice t) h)
 
-contact-returns : (c : ContactIndex) → contactIndexGood c ≡ true → contactIndexOf (contactIndexNumber c) ≡ c
-unfolding contactIndexOf contactIndexNumber contactIndexGood
+contact-returns : (c : ContactIndex) → contactProper c ≡ true → contactIndexOf (contactIndexNumber c) ≡ c
+unfolding contactIndexOf contactIndexNumber contactProper
 contact-returns Nobody h = refl
 contact-returns (Index x) h = at (eqb x 65535) h
   where
@@ -266,9 +278,9 @@ module _ {s : List ℕ} {i : FmInfo} (h : HoldsFm s i) (g : GivenFm i) where
       }
 
 module _ {s : List ℕ} {i : DmrInfo} (h : HoldsDmr s i) (g : GivenDmr i) where
-  dmr-is : infoOf s ≡ Dmr i
+  dmr-is : contactProper (i .contact) ≡ true → infoOf s ≡ Dmr i
   unfolding infoOf dmrOf
-  dmr-is = rw (h .mode, h .colours, h .slot, h .contact, halves-returns _ (g .halves), contact-returns _ (g .index))
+  dmr-is p = rw (h .mode, h .colours, h .slot, h .contact, halves-returns _ (g .halves), contact-returns _ p)
 
   dmr-rule : GoodDmr s
   dmr-rule = record { slot = rw (h .slot) (g .timeslot); pad = h .pad }
@@ -277,9 +289,9 @@ module _ {s : List ℕ} {i : M17Info} (h : HoldsM17 s i) (g : GivenM17 i) where
   use-is : halvesOf (getD s 86 0) ≡ record { high = i .operation; low = i .encryption }
   use-is = rw (h .use-of) (halves-returns _ (use-halves i g))
 
-  m17-is : infoOf s ≡ M17 i
+  m17-is : contactProper (i .contact) ≡ true → infoOf s ≡ M17 i
   unfolding infoOf m17Of
-  m17-is =
+  m17-is p =
       rw (
         h .mode,
         h .access,
@@ -288,7 +300,7 @@ module _ {s : List ℕ} {i : M17Info} (h : HoldsM17 s i) (g : GivenM17 i) where
         h .contact,
         halves-returns _ (g .halves),
         flag-returns (i .position),
-        contact-returns _ (g .index),
+        contact-returns _ p,
       )
 
   m17-rule : GoodM17 s
@@ -340,8 +352,8 @@ module _ (name description : List ℕ) (common : Common) where
 
   info-is : (info : Info) → Given name description common info → Ranges common info → infoOf (channelBytes name description common info) ≡ info
   info-is (Fm i) g r = fm-is (holds-fm i g) (fm-told i (g .rest))
-  info-is (Dmr i) g r = dmr-is (holds-dmr i g r) (dmr-told i (g .rest))
-  info-is (M17 i) g r = m17-is (holds-m17 i g r) (m17-told i (g .rest))
+  info-is (Dmr i) g r = dmr-is (holds-dmr i g r) (dmr-told i (g .rest)) (r .contact-proper)
+  info-is (M17 i) g r = m17-is (holds-m17 i g r) (m17-told i (g .rest)) (r .contact-proper)
 
   -- the rule of the mode that the bytes have; the other modes they have not
   fm-part : (info : Info) → Given name description common info → modeNumber info ≡ 0 → GoodFm (channelBytes name description common info)
@@ -440,11 +452,11 @@ contactNumber-of x = at (eqb x 65535) refl
     at true e = sym (eqb-true x 65535 e)
     at false e = refl
 
-contactGood-of : (x : ℕ) → contactIndexGood (contactIndexOf x) ≡ true
-unfolding contactIndexGood contactIndexOf
-contactGood-of x = at (eqb x 65535) refl
+contactProper-of : (x : ℕ) → contactProper (contactIndexOf x) ≡ true
+unfolding contactProper contactIndexOf
+contactProper-of x = at (eqb x 65535) refl
   where
-    at : (t : Bool) → eqb x 65535 ≡ t → contactIndexGood (cond t Nobody (Index x)) ≡ true
+    at : (t : Bool) → eqb x 65535 ≡ t → contactProper (cond t Nobody (Index x)) ≡ true
     at true e = refl
     at false e = rw e
 
@@ -560,11 +572,11 @@ module _ (s : List ℕ) where
 
     dmr-given : GoodDmr s → GivenDmr (dmrOf s)
     unfolding dmrOf
-    dmr-given f = record { halves = halvesGood-of _ (b 85); timeslot = f .slot; index = contactGood-of _ }
+    dmr-given f = record { halves = halvesGood-of _ (b 85); timeslot = f .slot }
 
     m17-given : GoodM17 s → GivenM17 (m17Of s)
     unfolding m17Of
-    m17-given f = record { halves = halvesGood-of _ (b 85); use-of = and-both _ _ (f .operation) (f .encryption); index = contactGood-of _ }
+    m17-given f = record { halves = halvesGood-of _ (b 85); use-of = and-both _ _ (f .operation) (f .encryption) }
 
     info-given : infoGiven (infoOf s) ≡ Good
     info-given =
@@ -610,6 +622,11 @@ read-ranges s base named b h =
           (λ e. rw (info-is-fm s e) (omega arith))
           (λ e. rw (info-is-dmr s e, contactNumber-of (num s 87 2)) (num-lt s 87 2 b))
           (λ e. let m : getD s 0 0 ≡ 2 = omega (arith, g .mode) in rw (info-is-m17 s m, contactNumber-of (num s 88 2)) (num-lt s 88 2 b));
+      contact-proper =
+          by-mode (infoProper (infoOf s) ≡ true) (getD s 0 0)
+          (λ e. rw (info-is-fm s e))
+          (λ e. rw (info-is-dmr s e) (contactProper-of (num s 87 2)))
+          (λ e. let m : getD s 0 0 ≡ 2 = omega (arith, g .mode) in rw (info-is-m17 s m) (contactProper-of (num s 88 2)));
     }
 
 -- ---- what a writer refuses

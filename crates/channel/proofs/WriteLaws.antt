@@ -26,7 +26,7 @@ use Rattle.bits.specs.Packed.{choiceGood, halvesGood, signedOf, signedByte}
 use Rattle.bits.proofs.Laws.{signed-returns, i8Range-fits, and-left, and-right, and-both}
 use Rattle.tones.specs.Tone.{toneGood}
 use Rattle.channel.specs.Channel.{traitsChoice, latitudeOk, latitudeFractionOk, fractionOk, slotOk, operationOk, encryptionOk}
-use Rattle.channel.specs.Channel.{contactIndexGood, headGiven, locationGiven, infoGiven, channelGiven, modeNumber}
+use Rattle.channel.specs.Channel.{headGiven, locationGiven, infoGiven, channelGiven, modeNumber}
 use Rattle.channel.specs.Channel.{headBytes, locationBytes, infoBytes, channelBytes, channelWritten}
 use Rattle.channel.specs.declared.Location.{Location}
 use Rattle.channel.specs.declared.Common.{Common}
@@ -68,12 +68,10 @@ pub record GivenFm (i : FmInfo) : Type 0 where
 pub record GivenDmr (i : DmrInfo) : Type 0 where
   pub halves : halvesGood (i .colours) ≡ true
   pub timeslot : slotOk (i .slot) ≡ true
-  pub index : contactIndexGood (i .contact) ≡ true
 
 pub record GivenM17 (i : M17Info) : Type 0 where
   pub halves : halvesGood (i .access) ≡ true
   pub use-of : operationOk (i .operation) && encryptionOk (i .encryption) ≡ true
-  pub index : contactIndexGood (i .contact) ≡ true
 
 pub record Given (name description : List ℕ) (common : Common) (info : Info) : Type 0 where
   pub head : headGiven common ≡ Good
@@ -135,22 +133,22 @@ fm-passes i g = both-good _ _ (unless-passes _ _ _ (g .first)) (unless-passes _ 
 pub dmr-told : (i : DmrInfo) → infoGiven (Dmr i) ≡ Good → GivenDmr i
 unfolding infoGiven
 dmr-told i h =
-    let f = three-tests _ _ _ _ _ _ _ _ _ h in
-    record { halves = f .0; timeslot = f .1 .0; index = f .1 .1 }
+    let f = then-good _ _ h in
+    record { halves = unless-good _ _ _ (f .0); timeslot = unless-good _ _ _ (f .1) }
 
 pub dmr-passes : (i : DmrInfo) → GivenDmr i → infoGiven (Dmr i) ≡ Good
 unfolding infoGiven
-dmr-passes i g = tests-three _ _ _ _ _ _ _ _ _ (g .halves) (g .timeslot) (g .index)
+dmr-passes i g = both-good _ _ (unless-passes _ _ _ (g .halves)) (unless-passes _ _ _ (g .timeslot))
 
 pub m17-told : (i : M17Info) → infoGiven (M17 i) ≡ Good → GivenM17 i
 unfolding infoGiven
 m17-told i h =
-    let f = three-tests _ _ _ _ _ _ _ _ _ h in
-    record { halves = f .0; use-of = f .1 .0; index = f .1 .1 }
+    let f = then-good _ _ h in
+    record { halves = unless-good _ _ _ (f .0); use-of = unless-good _ _ _ (f .1) }
 
 pub m17-passes : (i : M17Info) → GivenM17 i → infoGiven (M17 i) ≡ Good
 unfolding infoGiven
-m17-passes i g = tests-three _ _ _ _ _ _ _ _ _ (g .halves) (g .use-of) (g .index)
+m17-passes i g = both-good _ _ (unless-passes _ _ _ (g .halves)) (unless-passes _ _ _ (g .use-of))
 
 module _ (room : ℕ) (name description : List ℕ) (common : Common) (info : Info) where
   pub given-room : channelGiven room name description common info ≡ Good → 90 ≤ room

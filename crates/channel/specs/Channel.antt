@@ -90,11 +90,6 @@ unfoldable pub contactIndexNumber : ContactIndex → ℕ
 contactIndexNumber contact.Nobody = 65535
 contactIndexNumber (contact.Index x) = x
 
--- an index that a writer may be given: 65,535 would read back as none
-unfoldable pub contactIndexGood : ContactIndex → Bool
-contactIndexGood contact.Nobody = true
-contactIndexGood (contact.Index x) = not (eqb x 65535)
-
 -- ---- the rule: fields in file order
 
 unfoldable pub headRule : List ℕ → ℕ → Verdict
@@ -246,16 +241,13 @@ locationGiven l =
     then unless (latitudeFractionOk (l .latitude) (l .«latitude_e4»)) 7 78
     then unless (fractionOk (l .«longitude_e4»)) 7 81
 
+-- a written contact index is judged in the whole file only
 unfoldable pub infoGiven : Info → Verdict
 infoGiven (Fm i) = unless (toneGood (i .receive)) 7 85 then unless (toneGood (i .transmit)) 7 86
-infoGiven (Dmr i) =
-    unless (halvesGood (i .colours)) 7 85
-    then unless (slotOk (i .slot)) 7 86
-    then unless (contactIndexGood (i .contact)) 9 dmrContactAt
+infoGiven (Dmr i) = unless (halvesGood (i .colours)) 7 85 then unless (slotOk (i .slot)) 7 86
 infoGiven (M17 i) =
     unless (halvesGood (i .access)) 7 85
     then unless (operationOk (i .operation) && encryptionOk (i .encryption)) 7 86
-    then unless (contactIndexGood (i .contact)) 9 m17ContactAt
 
 unfoldable pub channelGiven : ℕ → List ℕ → List ℕ → Common → Info → Verdict
 channelGiven size name description common info =

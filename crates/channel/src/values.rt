@@ -5,7 +5,7 @@ use bits::Choice;
 ghost use mathlib.Core.Path.{_≡_};
 ghost use mathlib.Core.Bool.{_&&_};
 ghost use Rattle.bits.specs.Packed.{signedOf};
-ghost use Rattle.channel.specs.Channel.{traitsOf, traitsChoice, latitudeOk, latitudeFractionOk, fractionOk, slotOk, operationOk, encryptionOk, contactIndexOf, contactIndexNumber, contactIndexGood};
+ghost use Rattle.channel.specs.Channel.{traitsOf, traitsChoice, latitudeOk, latitudeFractionOk, fractionOk, slotOk, operationOk, encryptionOk, contactIndexOf, contactIndexNumber};
 
 pub fn traits_of(b: u8) -> Traits
     ensures { λ r. ⌜ r ≡ traitsOf b ⌝ }
@@ -75,14 +75,5 @@ pub fn contact_index_number(c: ContactIndex) -> u16
     match c {
         ContactIndex::Nobody => 65535,
         ContactIndex::Index(x) => x,
-    }
-}
-
-pub fn contact_index_good(c: ContactIndex) -> bool
-    ensures { λ r. ⌜ r ≡ contactIndexGood c ⌝ }
-{
-    match c {
-        ContactIndex::Nobody => true,
-        ContactIndex::Index(x) => x != 65535,
     }
 }

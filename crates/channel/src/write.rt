@@ -6,7 +6,6 @@ use crate::FmInfo;
 use crate::Info;
 use crate::Location;
 use crate::M17Info;
-use crate::values::contact_index_good;
 use crate::values::contact_index_number;
 use crate::values::fraction_ok;
 use crate::values::latitude_fraction_ok;
@@ -24,7 +23,6 @@ use fields::put::put;
 use fields::put::put_byte;
 use fields::put::put_le16;
 use fields::put::put_le32;
-use fields::rule::CONTACT_INDEX;
 use fields::rule::SHORT_BUFFER;
 use fields::rule::TEXT;
 use fields::rule::VALUE;
@@ -77,9 +75,7 @@ fn dmr_given(i: DmrInfo) -> Verdict
 {
     let colours = unless(halves_good(i.colours), VALUE, 85);
     let slot = unless(slot_ok(i.slot), VALUE, 86);
-    let called = i.contact;
-    let contact = unless(contact_index_good(called), CONTACT_INDEX, 87);
-    first(colours, first(slot, contact))
+    first(colours, slot)
 }
 
 fn m17_given(i: M17Info) -> Verdict
@@ -87,9 +83,7 @@ fn m17_given(i: M17Info) -> Verdict
 {
     let access = unless(halves_good(i.access), VALUE, 85);
     let operation = unless(operation_ok(i.operation, i.encryption), VALUE, 86);
-    let called = i.contact;
-    let contact = unless(contact_index_good(called), CONTACT_INDEX, 88);
-    first(access, first(operation, contact))
+    first(access, operation)
 }
 
 fn info_given(info: Info) -> Verdict

@@ -1,6 +1,7 @@
--- Reading records of a file that was judged before, without judging it again. Any bytes are answered: 33 by the header's count, then
--- the record's own first bad field; of a bank, its name and entry count. What the rest of a bad file would give is not looked for. Of an
--- accepted file the answers are those of Read.antt (proofs/JudgedOnce.antt).
+-- Reading records of a file that was judged once, without judging it again: an addition to document 01 (docs/DECISIONS.md). Any bytes are
+-- answered: 33 by the header's count, then the record's own first bad field; of a bank, that of its name and entry count. What the rest of
+-- a bad file would give is not looked for. A bank that is refused hands out no entries. Of an accepted file the answers are those of
+-- Read.antt (proofs/JudgedOnce.antt).
 use Prim.Native.Nat.{ℕ}
 use mathlib.Core.List.{List}
 use lib.Dec.{ltb}

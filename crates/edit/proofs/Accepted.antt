@@ -22,7 +22,7 @@ use Rattle.channel.specs.declared.ContactIndex.{ContactIndex}
 use Rattle.channel.specs.declared.ContactIndex.the-variants.{Nobody, Index}
 use Rattle.channel.proofs.Laws.{GoodChannel, by-mode, good-named, good-channel, good-length, channel-good-by}
 use Rattle.layout.specs.Places.{contactCount, channelCount, contactPlace, channelPlace, offsetPlace}
-use Rattle.layout.specs.Header.{titleRule}
+use Rattle.layout.specs.Header.{identityRule}
 use Rattle.codeplug.specs.File.{namesContact, indexOk, contactsRule, channelsRule, fileRule}
 use Rattle.codeplug.proofs.Laws.{file-good, file-header, contact-there, contact-whole, channel-there, channel-whole}
 use Rattle.plug.specs.Plug.{Plug, plugBytes, plugOf}
@@ -74,7 +74,7 @@ module _ (c : Plug) (h : Shaped c) where
   -- reading the file of a shaped codeplug
   pub file-judged : fileRule (plugBytes c)
       ≡ unless (leb (length (plugBytes c)) 1_048_576) 1 0
-      then titleRule (c .title)
+      then identityRule (c .preamble)
       then eachOf contactRule 39 88 (c .contacts)
       then eachOf (channelIn (c .contacts)) 90 (channelsStart c) (c .channels)
       then banksOk (length (c .channels)) (banksStart c) (c .banks)
@@ -156,7 +156,7 @@ channels-pass t p l h = run-of-every (channelIn t) (ChannelGood t) (channel-pass
 pub record Accepted (c : Plug) : Type 0 where
   pub shaped : Shaped c
   pub short : length (plugBytes c) ≤ 1_048_576
-  pub title : titleRule (c .title) ≡ Good
+  pub preamble : identityRule (c .preamble) ≡ Good
   pub contacts : Every ContactGood (c .contacts)
   pub channels : Every (ChannelGood (c .contacts)) (c .channels)
   pub banks : Every (BankGood (length (c .channels))) (c .banks)
@@ -170,7 +170,7 @@ accepted-by c h g =
     record {
       shaped = h;
       short = leb-true (length (plugBytes c)) 1_048_576 (unless-good (leb (length (plugBytes c)) 1_048_576) 1 0 (a .0));
-      title = b .0;
+      preamble = b .0;
       contacts = every-of-run contactRule ContactGood contact-is-good 39 88 (c .contacts) (d .0);
       channels =
           every-of-run (channelIn (c .contacts)) (ChannelGood (c .contacts)) (channel-is-good (c .contacts)) 90 (channelsStart c)

@@ -100,7 +100,7 @@ module _ (c : Plug) (a : Accepted c) where
     shaped-banks fits banks room =
         let h = a .shaped in
         record {
-          title = h .title;
+          preamble = h .preamble;
           titleBytes = h .titleBytes;
           contactsFit = h .contactsFit;
           contacts = h .contacts;
@@ -125,7 +125,7 @@ module _ (c : Plug) (a : Accepted c) where
       unfolding withBanks _then_
       banks-result =
           file-judged (withBanks l c) h
-          ∙ rw (a .title, contacts-pass 88 (c .contacts) (a .contacts), channels-pass (c .contacts) _ (c .channels) (a .channels))
+          ∙ rw (a .preamble, contacts-pass 88 (c .contacts) (a .contacts), channels-pass (c .contacts) _ (c .channels) (a .channels))
 
       -- no longer than before
       banks-result-short : length (plugBytes (withBanks l c)) ≤ length (plugBytes c)

@@ -14,7 +14,7 @@ use Rattle.fields.proofs.Laws.{then-of-good, unless-passes, AllBytes, little-lt
 use Rattle.layout.specs.Banks.{bankPlace}
 use Rattle.codeplug.specs.File.{fileRule}
 use Rattle.plug.specs.Plug.{Bank, Plug, bankBytes, plugBytes}
-use Rattle.plug.specs.Edits.{insertAt, removeAt, replaceAt, changeAt, withBanks, named, withEntries, entriesIn}
+use Rattle.plug.specs.Edits.{insertAt, removeAt, replaceAt, changeAt, withBanks, renamed, withEntries, entriesIn}
 use Rattle.plug.proofs.Blocks.{Every, Small, every-getD, every-take, every-drop, length-bankBytes}
 use Rattle.plug.proofs.Shape.{BankShaped, Shaped}
 use Rattle.plug.proofs.Judged.{entriesOf, entriesOf-append, entriesOf-passes, bankOk, bankOk-passes, BankGood}
@@ -78,26 +78,26 @@ module _ (c : Plug) (a : Accepted c) where
     -- ---- 9
 
     module _ (r : List ℕ) (w : length r ≡ 32) (b : AllBytes r) where
-      named-shaped : BankShaped (named r old)
-      unfolding named
+      named-shaped : BankShaped (renamed r old)
+      unfolding renamed
       named-shaped = record { wide = w; bytes = b; fits = old-shaped .fits; small = old-shaped .small }
 
-      named-length : length (bankBytes (named r old)) ≡ length (bankBytes old)
-      unfolding named
-      named-length = length-bankBytes (named r old) w ∙ sym (length-bankBytes old (old-shaped .wide))
+      named-length : length (bankBytes (renamed r old)) ≡ length (bankBytes old)
+      unfolding renamed
+      named-length = length-bankBytes (renamed r old) w ∙ sym (length-bankBytes old (old-shaped .wide))
 
-      named-ok : (n p : ℕ) → BankGood n old → bankOk n p (named r old) ≡ unless (textOk r) 5 p
-      unfolding named bankOk
+      named-ok : (n p : ℕ) → BankGood n old → bankOk n p (renamed r old) ≡ unless (textOk r) 5 p
+      unfolding renamed bankOk
       named-ok n p h = rw (entriesOf-passes n (p + 34) (old .entries) (h .below)) (then-of-good (unless (textOk r) 5 p))
 
-      pub shaped-rename : Shaped (withBanks (changeAt i (named r) (c .banks)) c)
-      shaped-rename = rw (change-is i (named r) (c .banks) noBank g) (shaped-replace-bank c a i (named r old) g named-shaped)
+      pub shaped-rename : Shaped (withBanks (changeAt i (renamed r) (c .banks)) c)
+      shaped-rename = rw (change-is i (renamed r) (c .banks) noBank g) (shaped-replace-bank c a i (renamed r old) g named-shaped)
 
-      pub rename-bank-is : fileRule (plugBytes (withBanks (changeAt i (named r) (c .banks)) c))
+      pub rename-bank-is : fileRule (plugBytes (withBanks (changeAt i (renamed r) (c .banks)) c))
           ≡ unless (textOk r) 5 (bankPlace (plugBytes c) i)
       rename-bank-is =
-          rw (change-is i (named r) (c .banks) noBank g)
-          (replace-bank-short c a i (named r old) g named-shaped (omega (arith, named-length))
+          rw (change-is i (renamed r) (c .banks) noBank g)
+          (replace-bank-short c a i (renamed r old) g named-shaped (omega (arith, named-length))
           ∙ named-ok (length (c .channels)) (bankPlace (plugBytes c) i) old-good)
 
     -- ---- 10

@@ -96,7 +96,7 @@ module _ (c : Plug) (a : Accepted c) where
     shaped-both fits wide bytes banksFit banks room =
         let h = a .shaped in
         record {
-          title = h .title;
+          preamble = h .preamble;
           titleBytes = h .titleBytes;
           contactsFit = h .contactsFit;
           contacts = h .contacts;
@@ -123,7 +123,7 @@ module _ (c : Plug) (a : Accepted c) where
       both-result g =
           file-judged (withChannels l (withBanks m c)) h
           ∙ rw (
-            a .title,
+            a .preamble,
             contacts-pass 88 (c .contacts) (a .contacts),
             banksOk-passes (length l) _ m g,
             then-of-good (eachOf (channelIn (c .contacts)) 90 (channelsStart c) l),

@@ -80,7 +80,7 @@ module _ (c : Plug) (a : Accepted c) where
     shaped-both fits wide bytes channels channelsBytes =
         let h = a .shaped in
         record {
-          title = h .title;
+          preamble = h .preamble;
           titleBytes = h .titleBytes;
           contactsFit = fits;
           contacts = wide;
@@ -108,7 +108,7 @@ module _ (c : Plug) (a : Accepted c) where
       both-result =
           file-judged (withContacts l (withChannels m c)) h
           ∙ rw (
-            a .title,
+            a .preamble,
             banksOk-passes (length m) _ (c .banks) (rw e (a .banks)),
             then-of-good (eachOf (channelIn l) 90 (88 + length l * 39) m),
           )

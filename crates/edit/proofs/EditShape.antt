@@ -12,7 +12,7 @@ use Rattle.fields.proofs.Laws.{AllBytes}
 use Rattle.bits.proofs.Laws.{and-left, and-right}
 use Rattle.plug.specs.Plug.{Plug}
 use Rattle.plug.specs.declared.Kind.{Kind}
-use Rattle.plug.specs.declared.Kind.the-variants.{InsertContact, RemoveContact, ReplaceContact, InsertChannel, RemoveChannel, ReplaceChannel, InsertBank, RemoveBank, RenameBank, InsertEntry, RemoveEntry, SetTitle}
+use Rattle.plug.specs.declared.Kind.the-variants.{InsertContact, RemoveContact, ReplaceContact, InsertChannel, RemoveChannel, ReplaceChannel, InsertBank, RemoveBank, RenameBank, InsertEntry, RemoveEntry, SetHeader}
 use Rattle.plug.specs.Edits.{recordLength, edited, placeOk, countOk, inUse, entriesIn}
 use Rattle.plug.proofs.Shape.{BankShaped, Shaped}
 use Rattle.plug.proofs.Blocks.{every-getD}
@@ -66,4 +66,4 @@ edited-shaped InsertEntry i j r c a b w p n u =
 edited-shaped RemoveEntry i j r c a b w p n u =
     shaped-remove-entry c a i (below i (length (c .banks)) _ p) j
     (ltb-true j (entriesIn i (c .banks)) (and-right (ltb i (length (c .banks))) _ p))
-edited-shaped SetTitle i j r c a b w p n u = shaped-title c a r w b
+edited-shaped SetHeader i j r c a b w p n u = shaped-title c a r w b

@@ -15,8 +15,8 @@ use Rattle.codeplug.specs.File.{fileRule}
 use Rattle.layout.specs.Places.{contactCount, channelCount, bankCount, contactPlace, channelPlace, banksPlace}
 use Rattle.plug.specs.Plug.{Bank, Plug, joined, bankBytes, offsetsFrom, countBytes, plugBytes, plugOf}
 use Rattle.plug.specs.Edits.{insertAt, removeAt, replaceAt, raised, lowered, moveContact, moveEntries}
-use Rattle.plug.specs.Edits.{withContacts, withChannels, withBanks, withTitle, moveContacts, moveChannels, edited, placeOk, recordLength}
-use Rattle.plug.specs.declared.Kind.the-variants.{InsertContact, RemoveContact, ReplaceContact, InsertChannel, RemoveChannel, ReplaceChannel, SetTitle}
+use Rattle.plug.specs.Edits.{withContacts, withChannels, withBanks, withPreamble, moveContacts, moveChannels, edited, placeOk, recordLength}
+use Rattle.plug.specs.declared.Kind.the-variants.{InsertContact, RemoveContact, ReplaceContact, InsertChannel, RemoveChannel, ReplaceChannel, SetHeader}
 use Rattle.plug.proofs.Blocks.{Every, Wide, every-take, every-getD, every-map, joined-append, length-joined, blocks-joined, banksBytes, length-offsets}
 use Rattle.plug.proofs.FileOf.{file-of-plug}
 use Rattle.plug.proofs.Shape.{BankShaped, Shaped, tableOn, channelsOn, channelsStart, banksStart, from-channels, from-banks}
@@ -117,13 +117,13 @@ abbrev otherCounts : Plug → List ℕ
 otherCounts c = littleBytes 2 (length (c .channels)) ++ littleBytes 2 (length (c .banks))
 
 file-contacts : (c : Plug) (k : List (List ℕ))
-    → plugBytes (withContacts k c) ≡ c .title ++ (littleBytes 2 (length k) ++ (otherCounts c ++ (joined k ++ channelsOn c)))
+    → plugBytes (withContacts k c) ≡ c .preamble ++ (littleBytes 2 (length k) ++ (otherCounts c ++ (joined k ++ channelsOn c)))
 unfolding plugBytes countBytes withContacts
 file-contacts c k = simp append-assoc
 
 -- before the count of channels, and between it and the channels
 abbrev toCount : Plug → List ℕ
-toCount c = c .title ++ littleBytes 2 (length (c .contacts))
+toCount c = c .preamble ++ littleBytes 2 (length (c .contacts))
 
 abbrev toChannels : Plug → List ℕ
 toChannels c = littleBytes 2 (length (c .banks)) ++ joined (c .contacts)
@@ -147,8 +147,8 @@ same-banks c = refl
 
 -- ---- one contact or channel of a codeplug
 
-module _ (c : Plug) (title : length (c .title) ≡ 82) (wide : Wide 39 (c .contacts)) (i : ℕ) where
-  contact-seam : length (c .title) + length (littleBytes 2 (length (c .contacts))) + length (otherCounts c) + i * 39 ≡ contactPlace i
+module _ (c : Plug) (preamble : length (c .preamble) ≡ 82) (wide : Wide 39 (c .contacts)) (i : ℕ) where
+  contact-seam : length (c .preamble) + length (littleBytes 2 (length (c .contacts))) + length (otherCounts c) + i * 39 ≡ contactPlace i
   unfolding contactPlace
   contact-seam = simp (length-append, length-littleBytes) (omega arith)
 
@@ -161,7 +161,7 @@ module _ (c : Plug) (title : length (c .title) ≡ 82) (wide : Wide 39 (c .conta
       let e : length (insertAt i r l) ≡ length l + 1 = omega (arith, length-insert i r l g) in
       let y = littleBytes 2 (length l + 1) in
       rw (same-contacts c, file-contacts c (insertAt i r l), file-contacts c l, e)
-      (inserted-record (c .title) (otherCounts c) (channelsOn c) 39 l wide i (contactPlace i) 82 n contact-seam y title
+      (inserted-record (c .preamble) (otherCounts c) (channelsOn c) 39 l wide i (contactPlace i) 82 n contact-seam y preamble
       (length-littleBytes 2 (length l) ∙ sym (length-littleBytes 2 (length l + 1))) r g)
 
   removed-contact : i < length (c .contacts)
@@ -173,7 +173,7 @@ module _ (c : Plug) (title : length (c .title) ≡ 82) (wide : Wide 39 (c .conta
       let e : length (removeAt i l) ≡ length l - 1 = omega (arith, length-remove i l g) in
       let y = littleBytes 2 (length l - 1) in
       rw (same-contacts c, file-contacts c (removeAt i l), file-contacts c l, e)
-      (removed-record (c .title) (otherCounts c) (channelsOn c) 39 l wide i (contactPlace i) 82 n contact-seam y title
+      (removed-record (c .preamble) (otherCounts c) (channelsOn c) 39 l wide i (contactPlace i) 82 n contact-seam y preamble
       (length-littleBytes 2 (length l) ∙ sym (length-littleBytes 2 (length l - 1))) g)
 
   replaced-contact : (r : List ℕ) → i < length (c .contacts) → length r ≡ 39
@@ -182,9 +182,9 @@ module _ (c : Plug) (title : length (c .title) ≡ 82) (wide : Wide 39 (c .conta
       let l = c .contacts in
       let n = littleBytes 2 (length l) in
       rw (same-contacts c, file-contacts c (replaceAt i r l), file-contacts c l, length-replace i r l g)
-      (replaced-record (c .title) (otherCounts c) (channelsOn c) 39 l wide i (contactPlace i) 82 n contact-seam r g w)
+      (replaced-record (c .preamble) (otherCounts c) (channelsOn c) 39 l wide i (contactPlace i) 82 n contact-seam r g w)
 
-module _ (c : Plug) (title : length (c .title) ≡ 82) (contacts : Wide 39 (c .contacts)) (wide : Wide 90 (c .channels)) (i : ℕ) where
+module _ (c : Plug) (preamble : length (c .preamble) ≡ 82) (contacts : Wide 39 (c .contacts)) (wide : Wide 90 (c .channels)) (i : ℕ) where
   count-seam : length (toCount c) ≡ 84
   count-seam = simp (length-append, length-littleBytes) (omega arith)
 
@@ -226,15 +226,15 @@ module _ (c : Plug) (title : length (c .title) ≡ 82) (contacts : Wide 39 (c .c
 
 -- ---- the title
 
-file-title : (c : Plug) (t : List ℕ) → plugBytes (withTitle t c) ≡ t ++ (countBytes c ++ (joined (c .contacts) ++ channelsOn c))
-unfolding plugBytes countBytes withTitle
+file-title : (c : Plug) (t : List ℕ) → plugBytes (withPreamble t c) ≡ t ++ (countBytes c ++ (joined (c .contacts) ++ channelsOn c))
+unfolding plugBytes countBytes withPreamble
 file-title c t = refl
 
-set-title : (c : Plug) → length (c .title) ≡ 82 → (r : List ℕ) → length r ≡ 72
-    → plugBytes (withTitle (take 10 (c .title) ++ r) c) ≡ over (plugBytes c) 10 r
+set-title : (c : Plug) → length (c .preamble) ≡ 82 → (r : List ℕ) → length r ≡ 72
+    → plugBytes (withPreamble (take 10 (c .preamble) ++ r) c) ≡ over (plugBytes c) 10 r
 unfolding plugBytes
 set-title c h r g =
-    let t = c .title in
+    let t = c .preamble in
     let z = countBytes c ++ (joined (c .contacts) ++ channelsOn c) in
     let k : length (take 10 t) ≡ 10 = length-take-le 10 t (omega arith) in
     let s : t ≡ take 10 t ++ drop 10 t = sym (take-append-drop 10 t) in
@@ -246,7 +246,7 @@ set-title c h r g =
 
 module _ (c : Plug) (h : Shaped c) (g : ℕ → ℕ) where
   file-to-channels : (k : List (List ℕ)) → length k ≡ length (c .channels)
-      → plugBytes (withChannels k c) ≡ (c .title ++ (countBytes c ++ joined (c .contacts))) ++ (joined k ++ tableOn c)
+      → plugBytes (withChannels k c) ≡ (c .preamble ++ (countBytes c ++ joined (c .contacts))) ++ (joined k ++ tableOn c)
   unfolding plugBytes countBytes withChannels
   file-to-channels k e = rw e (simp append-assoc)
 
@@ -260,10 +260,10 @@ module _ (c : Plug) (h : Shaped c) (g : ℕ → ℕ) where
       let z : channelsStart c + 0 * 90 ≡ channelsStart c = omega arith in
       rw (channel-count c h, channel-place c h 0, z, from-channels c h, blocks-joined 90 (c .channels) (tableOn c) (h .channels))
 
-  head-length : length (c .title ++ (countBytes c ++ joined (c .contacts))) ≡ channelsStart c
+  head-length : length (c .preamble ++ (countBytes c ++ joined (c .contacts))) ≡ channelsStart c
   unfolding countBytes
   head-length =
-      simp (length-append, length-littleBytes) (omega (arith, h .title, length-joined 39 (c .contacts) (h .contacts)))
+      simp (length-append, length-littleBytes) (omega (arith, h .preamble, length-joined 39 (c .contacts) (h .contacts)))
 
   same-joined-length : length (joined (c .channels)) ≡ length (joined (map (moveContact g) (c .channels)))
   same-joined-length =
@@ -274,7 +274,7 @@ module _ (c : Plug) (h : Shaped c) (g : ℕ → ℕ) where
   unfolding contactsFollow moveContacts
   contacts-follow =
       let m = map (moveContact g) (c .channels) in
-      let a = c .title ++ (countBytes c ++ joined (c .contacts)) in
+      let a = c .preamble ++ (countBytes c ++ joined (c .contacts)) in
       let z : channelsStart c + 0 * 90 ≡ channelsStart c = omega arith in
       rw (channels-moved, channel-place c h 0, z)
       (over-seam (plugBytes c) a (joined (c .channels)) (tableOn c) (joined m) (channelsStart c)
@@ -288,7 +288,7 @@ module _ (c : Plug) (h : Shaped c) (g : ℕ → ℕ) where
   offsets-stay at (b ∷ l) k = rw (moved-bank-length g b (k .0), offsets-stay (at + length (bankBytes b)) l (k .1))
 
   abbrev toBanks : List ℕ
-  toBanks = c .title ++ (countBytes c ++ (joined (c .contacts) ++ (joined (c .channels) ++ offsetsFrom 0 (c .banks))))
+  toBanks = c .preamble ++ (countBytes c ++ (joined (c .contacts) ++ (joined (c .channels) ++ offsetsFrom 0 (c .banks))))
 
   file-to-banks : (m : List Bank) → length m ≡ length (c .banks) → offsetsFrom 0 m ≡ offsetsFrom 0 (c .banks)
       → plugBytes (withBanks m c) ≡ toBanks ++ (banksBytes m ++ [])
@@ -301,7 +301,7 @@ module _ (c : Plug) (h : Shaped c) (g : ℕ → ℕ) where
       simp (length-append, length-littleBytes)
       (omega (
         arith,
-        h .title,
+        h .preamble,
         length-joined 39 (c .contacts) (h .contacts),
         length-joined 90 (c .channels) (h .channels),
         length-offsets 0 (c .banks),
@@ -333,26 +333,26 @@ module _ (c : Plug) (h : Shaped c) (g : ℕ → ℕ) (i : ℕ) where
       → plugBytes (withContacts (insertAt i r (c .contacts)) (moveContacts g c))
       ≡ over (cut (plugBytes (moveContacts g c)) (contactPlace i) 0 r) 82 (littleBytes 2 (length (c .contacts) + 1))
   unfolding moveContacts withChannels
-  one-contact-more = inserted-contact (moveContacts g c) (h .title) (h .contacts) i
+  one-contact-more = inserted-contact (moveContacts g c) (h .preamble) (h .contacts) i
 
   one-contact-less : i < length (c .contacts)
       → plugBytes (withContacts (removeAt i (c .contacts)) (moveContacts g c))
       ≡ over (cut (plugBytes (moveContacts g c)) (contactPlace i) 39 []) 82 (littleBytes 2 (length (c .contacts) - 1))
   unfolding moveContacts withChannels
-  one-contact-less = removed-contact (moveContacts g c) (h .title) (h .contacts) i
+  one-contact-less = removed-contact (moveContacts g c) (h .preamble) (h .contacts) i
 
   -- one channel more or less, after the bank entries have moved
   one-channel-more : (r : List ℕ) → i ≤ length (c .channels)
       → plugBytes (withChannels (insertAt i r (c .channels)) (moveChannels g c))
       ≡ over (cut (plugBytes (moveChannels g c)) (channelsStart c + i * 90) 0 r) 84 (littleBytes 2 (length (c .channels) + 1))
   unfolding moveChannels withBanks
-  one-channel-more = inserted-channel (moveChannels g c) (h .title) (h .contacts) (h .channels) i
+  one-channel-more = inserted-channel (moveChannels g c) (h .preamble) (h .contacts) (h .channels) i
 
   one-channel-less : i < length (c .channels)
       → plugBytes (withChannels (removeAt i (c .channels)) (moveChannels g c))
       ≡ over (cut (plugBytes (moveChannels g c)) (channelsStart c + i * 90) 90 []) 84 (littleBytes 2 (length (c .channels) - 1))
   unfolding moveChannels withBanks
-  one-channel-less = removed-channel (moveChannels g c) (h .title) (h .contacts) (h .channels) i
+  one-channel-less = removed-channel (moveChannels g c) (h .preamble) (h .contacts) (h .channels) i
 
   pub plug-insert-contact : (r : List ℕ) → i ≤ length (c .contacts)
       → plugBytes (withContacts (insertAt i r (c .contacts)) (moveContacts g c))
@@ -407,7 +407,7 @@ module _ (i j : ℕ) (r f : List ℕ) (bytes : AllBytes f) (good : fileRule f �
   unfolding result edited placeOk recordLength
   replace-contact-in-bytes place wide =
       on-file _ (λ x. over x (contactPlace i) r)
-      (replaced-contact (plugOf f) (shape .title) (shape .contacts) i r (below i (length (plugOf f .contacts)) _ place) wide)
+      (replaced-contact (plugOf f) (shape .preamble) (shape .contacts) i r (below i (length (plugOf f .contacts)) _ place) wide)
 
   pub insert-channel-in-bytes : placeOk InsertChannel i j (plugOf f) ≡ true
       → result InsertChannel i j r f
@@ -432,8 +432,8 @@ module _ (i j : ℕ) (r f : List ℕ) (bytes : AllBytes f) (good : fileRule f �
       let c = plugOf f in
       on-file _ (λ x. over x (channelPlace x i) r)
       (rw (channel-place c shape i)
-      (replaced-channel c (shape .title) (shape .contacts) (shape .channels) i r (below i (length (c .channels)) _ place) wide))
+      (replaced-channel c (shape .preamble) (shape .contacts) (shape .channels) i r (below i (length (c .channels)) _ place) wide))
 
-  pub set-title-in-bytes : length r ≡ recordLength SetTitle → result SetTitle i j r f ≡ over f 10 r
+  pub set-title-in-bytes : length r ≡ recordLength SetHeader → result SetHeader i j r f ≡ over f 10 r
   unfolding result edited recordLength
-  set-title-in-bytes wide = on-file _ (λ x. over x 10 r) (set-title (plugOf f) (shape .title) r wide)
+  set-title-in-bytes wide = on-file _ (λ x. over x 10 r) (set-title (plugOf f) (shape .preamble) r wide)

@@ -18,7 +18,7 @@ use Rattle.moves.specs.Splice.{cut}
 use Rattle.moves.proofs.SeamLaws.{over-seam, cut-over, cut-cut-over}
 use Rattle.codeplug.specs.File.{fileRule}
 use Rattle.plug.specs.Plug.{Bank, Plug, joined, pairs, bankBytes, offsetsFrom, countBytes, plugBytes, plugOf}
-use Rattle.plug.specs.Edits.{recordLength, insertAt, removeAt, replaceAt, changeAt, withBanks, named, withEntries, entriesIn, edited, placeOk}
+use Rattle.plug.specs.Edits.{recordLength, insertAt, removeAt, replaceAt, changeAt, withBanks, renamed, withEntries, entriesIn, edited, placeOk}
 use Rattle.plug.specs.declared.Kind.the-variants.{InsertBank, RemoveBank, RenameBank, InsertEntry, RemoveEntry}
 use Rattle.plug.proofs.Blocks.{every-getD, length-joined, length-offsets, banksBytes, banksBytes-cons, banksBytes-append, banksBytes-split, stands-num, stands-next, length-bankBytes, pairs-append, length-pairs}
 use Rattle.plug.proofs.FileOf.{file-of-plug}
@@ -86,7 +86,7 @@ follow-at g f a z y i at to e hp hn h w =
 
 -- the header up to the bank count
 abbrev front : Plug → List ℕ
-front c = c .title ++ (littleBytes 2 (length (c .contacts)) ++ littleBytes 2 (length (c .channels)))
+front c = c .preamble ++ (littleBytes 2 (length (c .contacts)) ++ littleBytes 2 (length (c .channels)))
 
 -- the contacts and channels
 abbrev middle : Plug → List ℕ
@@ -119,7 +119,7 @@ file-own c i =
 
 module _ (c : Plug) (h : Shaped c) where
   front-long : length (front c) ≡ 86
-  front-long = simp (length-append, length-littleBytes) (omega (arith, h .title))
+  front-long = simp (length-append, length-littleBytes) (omega (arith, h .preamble))
 
   middle-long : 88 + length (middle c) ≡ tableStart c
   middle-long =
@@ -175,7 +175,7 @@ module _ (c : Plug) (h : Shaped c) (i : ℕ) (g : i < length (c .banks)) where
         middle-long c h,
         before-long,
         length-append (joined (c .contacts)) (joined (c .channels)),
-        length-append (c .title) (littleBytes 2 (length (c .contacts)) ++ littleBytes 2 (length (c .channels))),
+        length-append (c .preamble) (littleBytes 2 (length (c .contacts)) ++ littleBytes 2 (length (c .channels))),
         length-append (littleBytes 2 (length (c .contacts))) (littleBytes 2 (length (c .channels))),
         length-littleBytes 2 (length (c .contacts)),
         length-littleBytes 2 (length (c .channels)),
@@ -202,13 +202,13 @@ module _ (c : Plug) (h : Shaped c) (i : ℕ) (g : i < length (c .banks)) where
   place-is at = omega (arith, bank-place c h i (omega arith), head-long (length (c .banks)), length-offsets at behind, behind-long)
 
   rename-is : (r : List ℕ) → length r ≡ 32
-      → plugBytes (withBanks (changeAt i (named r) (c .banks)) c) ≡ over (plugBytes c) (bankPlace (plugBytes c) i) r
-  unfolding named
+      → plugBytes (withBanks (changeAt i (renamed r) (c .banks)) c) ≡ over (plugBytes c) (bankPlace (plugBytes c) i) r
+  unfolding renamed
   rename-is r w =
       let at = length (banksBytes before) + length (bankBytes own) in
       let n = length (c .banks) in
-      let e : at ≡ length (banksBytes before) + length (bankBytes (named r own)) =
-      omega (arith, length-bankBytes (named r own) w, length-bankBytes own (own-shaped .wide))
+      let e : at ≡ length (banksBytes before) + length (bankBytes (renamed r own)) =
+      omega (arith, length-bankBytes (renamed r own) w, length-bankBytes own (own-shaped .wide))
       in
       let a = head c n before ++ (offsetsFrom at behind ++ banksBytes before) in
       let z = littleBytes 2 (length (own .entries)) ++ (pairs (own .entries) ++ banksBytes behind) in
@@ -220,7 +220,7 @@ module _ (c : Plug) (h : Shaped c) (i : ℕ) (g : i < length (c .banks)) where
       in
       let o = over-seam (plugBytes c) a (own .name) z r (bankPlace (plugBytes c) i) s (sym p) (own-shaped .wide ∙ sym w) in
       let k : a ++ (r ++ z) ≡ whole c n before at r (littleBytes 2 (length (own .entries))) (pairs (own .entries)) behind = simp append-assoc in
-      rw (change-is i (named r) (c .banks) noBank g) (replaced-at (named r own) at e ∙ sym (o ∙ k))
+      rw (change-is i (renamed r) (c .banks) noBank g) (replaced-at (renamed r own) at e ∙ sym (o ∙ k))
 
   -- ---- its entries
 

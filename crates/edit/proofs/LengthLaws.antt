@@ -16,8 +16,8 @@ use Rattle.layout.specs.Banks.{entryCount, bankPlace}
 use Rattle.codeplug.specs.File.{fileRule}
 use Rattle.plug.specs.Plug.{Bank, Plug, bankBytes, plugBytes, plugOf}
 use Rattle.plug.specs.declared.Kind.{Kind}
-use Rattle.plug.specs.declared.Kind.the-variants.{InsertContact, RemoveContact, ReplaceContact, InsertChannel, RemoveChannel, ReplaceChannel, InsertBank, RemoveBank, RenameBank, InsertEntry, RemoveEntry, SetTitle}
-use Rattle.plug.specs.Edits.{recordLength, insertAt, removeAt, replaceAt, changeAt, raised, lowered, moveContact, moveEntries, withContacts, withChannels, withBanks, withTitle, moveContacts, moveChannels, named, withEntries, edited, placeOk, countOk, inUse, entriesIn}
+use Rattle.plug.specs.declared.Kind.the-variants.{InsertContact, RemoveContact, ReplaceContact, InsertChannel, RemoveChannel, ReplaceChannel, InsertBank, RemoveBank, RenameBank, InsertEntry, RemoveEntry, SetHeader}
+use Rattle.plug.specs.Edits.{recordLength, insertAt, removeAt, replaceAt, changeAt, raised, lowered, moveContact, moveEntries, withContacts, withChannels, withBanks, withPreamble, moveContacts, moveChannels, renamed, withEntries, edited, placeOk, countOk, inUse, entriesIn}
 use Rattle.plug.proofs.Blocks.{every-getD, banksBytes, length-bankBytes}
 use Rattle.plug.proofs.FileOf.{file-of-plug}
 use Rattle.plug.proofs.Shape.{BankShaped, Shaped, length-plug, plug-of-file, bank-count}
@@ -73,9 +73,9 @@ module _ (c : Plug) (a : Accepted c) where
   unfolding withBanks
   banks-changed l h = omega (arith, length-plug (withBanks l c) h, length-plug c (a .shaped))
 
-  title-changed : (s : List ℕ) → Shaped (withTitle s c) → length (plugBytes (withTitle s c)) ≡ length (plugBytes c)
-  unfolding withTitle
-  title-changed s h = length-plug (withTitle s c) h ∙ sym (length-plug c (a .shaped))
+  title-changed : (s : List ℕ) → Shaped (withPreamble s c) → length (plugBytes (withPreamble s c)) ≡ length (plugBytes c)
+  unfolding withPreamble
+  title-changed s h = length-plug (withPreamble s c) h ∙ sym (length-plug c (a .shaped))
 
   -- bank i made by g, which is so many bytes longer or shorter
   bank-changed : (i : ℕ) (g : Bank → Bank) → i < length (c .banks) → Shaped (withBanks (changeAt i g (c .banks)) c)
@@ -89,10 +89,10 @@ module _ (c : Plug) (a : Accepted c) where
       (omega (arith, banks-changed (replaceAt i b (c .banks)) s, length-replace i b (c .banks) l, bytes-replace i b (c .banks) l))
 
 renamed-length : (c : Plug) (a : Accepted c) (i : ℕ) (r : List ℕ) → i < length (c .banks) → length r ≡ 32
-    → length (bankBytes (named r (getD (c .banks) i noBank))) ≡ length (bankBytes (getD (c .banks) i noBank))
-unfolding named
+    → length (bankBytes (renamed r (getD (c .banks) i noBank))) ≡ length (bankBytes (getD (c .banks) i noBank))
+unfolding renamed
 renamed-length c a i r g w =
-    length-bankBytes (named r (getD (c .banks) i noBank)) w ∙ sym (length-bankBytes (getD (c .banks) i noBank) (old-bank c a i g .wide))
+    length-bankBytes (renamed r (getD (c .banks) i noBank)) w ∙ sym (length-bankBytes (getD (c .banks) i noBank) (old-bank c a i g .wide))
 
 fuller-length : (c : Plug) (a : Accepted c) (i j x : ℕ) → i < length (c .banks) → j ≤ entriesIn i (c .banks)
     → length (bankBytes (withEntries (insertAt j x) (getD (c .banks) i noBank))) ≡ length (bankBytes (getD (c .banks) i noBank)) + 2
@@ -184,7 +184,7 @@ edit-length RemoveBank i j r c a h w p =
     )
 edit-length RenameBank i j r c a h w p =
     let g = below i (length (c .banks)) _ p in
-    omega (arith, bank-changed c a i (named r) g h, renamed-length c a i r g w)
+    omega (arith, bank-changed c a i (renamed r) g h, renamed-length c a i r g w)
 edit-length InsertEntry i j r c a h w p =
     let n = entriesIn i (c .banks) in
     let g = below i (length (c .banks)) (leb j n) p in
@@ -195,7 +195,7 @@ edit-length RemoveEntry i j r c a h w p =
     let g = below i (length (c .banks)) (ltb j n) p in
     let k : j < n = ltb-true j n (and-right (ltb i (length (c .banks))) _ p) in
     omega (arith, bank-changed c a i (withEntries (removeAt j)) g h, emptier-length c a i j g k)
-edit-length SetTitle i j r c a h w p = title-changed c a _ h
+edit-length SetHeader i j r c a h w p = title-changed c a _ h
 
 -- ---- an edit of an accepted file
 

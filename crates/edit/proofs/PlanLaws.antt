@@ -18,7 +18,7 @@ use Rattle.codeplug.specs.File.{fileRule}
 use Rattle.plug.specs.Plug.{plugOf}
 use Rattle.plug.specs.Edits.{recordLength, placeOk, countOk, entriesIn}
 use Rattle.plug.specs.declared.Kind.{Kind}
-use Rattle.plug.specs.declared.Kind.the-variants.{InsertContact, RemoveContact, ReplaceContact, InsertChannel, RemoveChannel, ReplaceChannel, InsertBank, RemoveBank, RenameBank, InsertEntry, RemoveEntry, SetTitle}
+use Rattle.plug.specs.declared.Kind.the-variants.{InsertContact, RemoveContact, ReplaceContact, InsertChannel, RemoveChannel, ReplaceChannel, InsertBank, RemoveBank, RenameBank, InsertEntry, RemoveEntry, SetHeader}
 use Rattle.plug.proofs.FileOf.{Laid}
 use Rattle.renumber.specs.Shift.{shiftOf, growthOf}
 use Rattle.renumber.specs.Moved.{offsetsFollow}
@@ -261,7 +261,7 @@ module _ (f : List ℕ) (bytes : AllBytes f) (i : ℕ) where
       let a = channel-fits f (laid f (h .0) bytes) i (channel-over-there f bytes i 0 h .0) in
       (rw e (sym (replace-channel-in-bytes i 0 r f bytes (h .0) (h .1 .0) w)), omega arith)
 
-  pub title-over : Ready SetTitle i 0 f → Makes (Replace 10) SetTitle i 0 f
+  pub title-over : Ready SetHeader i 0 f → Makes (Replace 10) SetHeader i 0 f
   unfolding Makes planned Fits recordLength
   title-over h r w s = (sym (set-title-in-bytes i 0 r f bytes (h .0) w), omega (arith, laid f (h .0) bytes .header))
 
@@ -432,7 +432,7 @@ onePlace RemoveBank = true
 onePlace RenameBank = true
 onePlace InsertEntry = false
 onePlace RemoveEntry = false
-onePlace SetTitle = true
+onePlace SetHeader = true
 
 false-not-true : _≡_ {A = Bool} false true → ⊥
 false-not-true e = let z : _≡_ {A = ℕ} 0 1 = ap (λ (b : Bool). cond b 1 0) e in absurd (omega arith)
@@ -450,7 +450,7 @@ second-none RemoveBank i j f o h = eqb-true j 0 (and-right (ltb i (length (plugO
 second-none RenameBank i j f o h = eqb-true j 0 (and-right (ltb i (length (plugOf f .banks))) _ h)
 second-none InsertEntry i j f o h = absurd (false-not-true o)
 second-none RemoveEntry i j f o h = absurd (false-not-true o)
-second-none SetTitle i j f o h = eqb-true j 0 (and-right (eqb i 0) _ h)
+second-none SetHeader i j f o h = eqb-true j 0 (and-right (eqb i 0) _ h)
 
 -- the kind k is m
 pub ready-as : (k m : Kind) (i j : ℕ) (f : List ℕ) → k ≡ m → Ready k i j f → Ready m i j f

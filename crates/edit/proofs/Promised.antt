@@ -14,9 +14,10 @@ use Rattle.fields.specs.declared.rule.Verdict.the-variants.{Good, Refused}
 use Rattle.codeplug.specs.File.{fileRule}
 use Rattle.codeplug.proofs.Laws.{file-good}
 use Rattle.journal.specs.Setting.{Call, edit, undo}
-use Rattle.journal.specs.Machine.{State, opened, answers, final, fileOf, historyOf, stands, step, next}
+use Rattle.journal.specs.Machine.{State, opened, answers, final, fileOf, historyOf, buffersRule, step, next}
 use Rattle.journal.specs.Book.{Book, book, bookAnswers, bookFile, bookFinal, fileAfter, anyKept, withoutLast}
-use Rattle.journal.proofs.Promise.{Laws, EveryEdit, promise, stateAfter, bookAfter, entries-after, stands-after, edit-refusals, undo-refusals, undo-refused, undo-takes-back}
+use Rattle.journal.specs.Promise.{EveryEdit}
+use Rattle.journal.proofs.Promise.{Laws, promise, stateAfter, bookAfter, entries-after, stands-after, edit-refusals, undo-refusals, undo-refused, undo-takes-back}
 use Rattle.journal.proofs.StepLaws.{newestFirst}
 use Rattle.journal.specs.Entry.{entrySize, whole}
 use Rattle.journal.specs.Change.{entryOf}
@@ -29,6 +30,7 @@ use Rattle.plug.proofs.FileOf.{file-of-plug}
 use Rattle.edit.specs.Result.{result}
 use Rattle.edit.proofs.Accepted.{laid}
 use Rattle.edit.specs.Setting.{Asked, refusesKnown, refusesKind, refuses, appliedKind, applied, editing}
+use Rattle.edit.specs.Demand.{OfBytes, Demand3}
 use Rattle.edit.proofs.ResultLaws.{result-bytes}
 
 -- an edit that is not refused gives an accepted file of bytes that fits the room
@@ -51,10 +53,6 @@ kind-good (Known k) a room f bytes good p h =
       ),
     )
 
--- an edit whose record is bytes, which is every one that code can pass
-abbrev pub OfBytes : Asked → Type 0
-OfBytes a = AllBytes (a .bytes)
-
 pub editing-laws : Laws editing OfBytes
 unfolding refuses applied
 editing-laws =
@@ -68,9 +66,7 @@ editing-laws =
 -- Over every accepted opening file, every size and content of the spare bytes of both buffers, and every list of edits and undos, refused
 -- ones included: each answer is the book's, and the room holds the book's file. It says that the two calls keep faith with the book; that
 -- an edit yields the file its rule describes is what the calls' contracts and `applied` say, which both sides share.
-pub editor-promise : (f spare history : List ℕ) → fileRule f ≡ Good → AllBytes f → (calls : List (Call editing)) → EveryEdit editing OfBytes calls
-    → (answers editing calls (opened f spare history) ≡ bookAnswers editing calls (book editing f (length (f ++ spare)) (length history)))
-    × (fileOf (final editing calls (opened f spare history)) ≡ bookFile editing (bookFinal editing calls (book editing f (length (f ++ spare)) (length history))))
+pub editor-promise : Demand3
 editor-promise f spare history good bytes calls proper = promise editing OfBytes editing-laws f spare history good bytes calls proper
 
 -- ---- what follows, after any list of calls
@@ -83,7 +79,7 @@ module _ (f spare history : List ℕ) (good : fileRule f ≡ Good) (bytes : AllB
   booked = bookAfter editing f spare history calls
 
   -- 30, the file's own refusal and 31 do not arise
-  pub editor-stands : stands editing now ≡ Good
+  pub editor-stands : buffersRule editing now ≡ Good
   editor-stands = stands-after editing OfBytes editing-laws f spare history good bytes calls proper
 
   -- the history's bytes are exactly the kept entries, newest first

@@ -13,7 +13,7 @@ use Rattle.bits.proofs.Laws.{and-right}
 use Rattle.codeplug.specs.File.{fileRule}
 use Rattle.plug.specs.Plug.{Plug, plugBytes, plugOf}
 use Rattle.plug.specs.declared.Kind.{Kind}
-use Rattle.plug.specs.declared.Kind.the-variants.{InsertContact, RemoveContact, ReplaceContact, InsertChannel, RemoveChannel, ReplaceChannel, InsertBank, RemoveBank, RenameBank, InsertEntry, RemoveEntry, SetTitle}
+use Rattle.plug.specs.declared.Kind.the-variants.{InsertContact, RemoveContact, ReplaceContact, InsertChannel, RemoveChannel, ReplaceChannel, InsertBank, RemoveBank, RenameBank, InsertEntry, RemoveEntry, SetHeader}
 use Rattle.plug.specs.Edits.{recordLength, edited, placeOk, countOk, inUse, entriesIn}
 use Rattle.plug.proofs.FileOf.{file-of-plug}
 use Rattle.plug.proofs.Shape.{Shaped, bytes-plug, channel-count, plug-of-file}
@@ -53,7 +53,7 @@ edit-judged InsertEntry i j r c a b w p n u =
 edit-judged RemoveEntry i j r c a b w p n u =
     remove-entry-is c a i (below i (length (c .banks)) _ p) j
     (ltb-true j (entriesIn i (c .banks)) (and-right (ltb i (length (c .banks))) _ p))
-edit-judged SetTitle i j r c a b w p n u = set-title-judged c a r w b
+edit-judged SetHeader i j r c a b w p n u = set-title-judged c a r w b
 
 -- ---- an edit of an accepted file
 

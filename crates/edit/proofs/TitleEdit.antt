@@ -14,10 +14,10 @@ use Rattle.fields.specs.Text.{textOk}
 use Rattle.fields.specs.Rule.{_then_, unless}
 use Rattle.fields.specs.declared.rule.Verdict.the-variants.{Good}
 use Rattle.fields.proofs.Laws.{part-left, part-right, part-part, then-good, then-of-good, unless-passes, field-good, field-inside, field-passes, AllBytes, bytes-append, bytes-take}
-use Rattle.layout.specs.Header.{titleRule}
+use Rattle.layout.specs.Header.{identityRule}
 use Rattle.codeplug.specs.File.{fileRule}
 use Rattle.plug.specs.Plug.{Plug, plugBytes}
-use Rattle.plug.specs.Edits.{withTitle}
+use Rattle.plug.specs.Edits.{withPreamble}
 use Rattle.plug.proofs.Shape.{Shaped, length-plug}
 use Rattle.edit.proofs.Accepted.{Accepted, file-judged, contacts-pass, channels-pass}
 use Rattle.plug.proofs.Judged.{banksOk-passes}
@@ -44,9 +44,9 @@ module _ (t r : List ℕ) (h : length t ≡ 82) (g : length r ≡ 72) where
       let d : j ≡ length (take 10 t) + k = omega (arith, kept-length) in
       rw d (part-right (take 10 t) r k n)
 
-  pub title-judged : titleRule t ≡ Good
-      → titleRule (newTitle t r) ≡ unless (textOk (part r 0 32)) 5 10 then unless (textOk (part r 32 32)) 5 42
-  unfolding titleRule _then_
+  pub title-judged : identityRule t ≡ Good
+      → identityRule (newTitle t r) ≡ unless (textOk (part r 0 32)) 5 10 then unless (textOk (part r 32 32)) 5 42
+  unfolding identityRule _then_
   title-judged e =
       let a = then-good _ _ e in
       let b = then-good _ _ (a .1) in
@@ -65,13 +65,13 @@ module _ (t r : List ℕ) (h : length t ≡ 82) (g : length r ≡ 72) where
       )
 
 module _ (c : Plug) (a : Accepted c) (r : List ℕ) (g : length r ≡ 72) (b : AllBytes r) where
-  pub shaped-title : Shaped (withTitle (newTitle (c .title) r) c)
-  unfolding withTitle
+  pub shaped-title : Shaped (withPreamble (newTitle (c .preamble) r) c)
+  unfolding withPreamble
   shaped-title =
       let h = a .shaped in
       record {
-        title = title-length (c .title) r (h .title) g;
-        titleBytes = bytes-append (take 10 (c .title)) r (bytes-take 10 (c .title) (h .titleBytes)) b;
+        preamble = title-length (c .preamble) r (h .preamble) g;
+        titleBytes = bytes-append (take 10 (c .preamble)) r (bytes-take 10 (c .preamble) (h .titleBytes)) b;
         contactsFit = h .contactsFit;
         contacts = h .contacts;
         contactsBytes = h .contactsBytes;
@@ -83,21 +83,21 @@ module _ (c : Plug) (a : Accepted c) (r : List ℕ) (g : length r ≡ 72) (b : A
         offsetsFit = h .offsetsFit;
       }
 
-  same-length : length (plugBytes (withTitle (newTitle (c .title) r) c)) ≡ length (plugBytes c)
-  unfolding withTitle
-  same-length = length-plug (withTitle (newTitle (c .title) r) c) shaped-title ∙ sym (length-plug c (a .shaped))
+  same-length : length (plugBytes (withPreamble (newTitle (c .preamble) r) c)) ≡ length (plugBytes c)
+  unfolding withPreamble
+  same-length = length-plug (withPreamble (newTitle (c .preamble) r) c) shaped-title ∙ sym (length-plug c (a .shaped))
 
-  pub set-title-judged : fileRule (plugBytes (withTitle (newTitle (c .title) r) c))
+  pub set-title-judged : fileRule (plugBytes (withPreamble (newTitle (c .preamble) r) c))
       ≡ unless (textOk (part r 0 32)) 5 10 then unless (textOk (part r 32 32)) 5 42
-  unfolding withTitle _then_
+  unfolding withPreamble _then_
   set-title-judged =
-      file-judged (withTitle (newTitle (c .title) r) c) shaped-title
+      file-judged (withPreamble (newTitle (c .preamble) r) c) shaped-title
       ∙ rw (
         same-length,
         unless-passes (leb (length (plugBytes c)) 1_048_576) 1 0 (le-leb (length (plugBytes c)) 1_048_576 (a .short)),
         contacts-pass 88 (c .contacts) (a .contacts),
         channels-pass (c .contacts) _ (c .channels) (a .channels),
         banksOk-passes (length (c .channels)) _ (c .banks) (a .banks),
-        then-of-good (titleRule (newTitle (c .title) r)),
+        then-of-good (identityRule (newTitle (c .preamble) r)),
       )
-      (title-judged (c .title) r (a .shaped .title) g (a .title))
+      (title-judged (c .preamble) r (a .shaped .preamble) g (a .preamble))

@@ -17,7 +17,7 @@ use Rattle.channel.specs.Channel.{channelRule, namedContact}
 use Rattle.codeplug.specs.File.{indexOk}
 use Rattle.plug.specs.Edits.{isIndex}
 use Rattle.plug.specs.declared.Kind.{Kind}
-use Rattle.plug.specs.declared.Kind.the-variants.{InsertContact, RemoveContact, ReplaceContact, InsertChannel, RemoveChannel, ReplaceChannel, InsertBank, RemoveBank, RenameBank, InsertEntry, RemoveEntry, SetTitle}
+use Rattle.plug.specs.declared.Kind.the-variants.{InsertContact, RemoveContact, ReplaceContact, InsertChannel, RemoveChannel, ReplaceChannel, InsertBank, RemoveBank, RenameBank, InsertEntry, RemoveEntry, SetHeader}
 
 -- the file may grow by so many bytes
 unfoldable pub mayGrow : ℕ → List ℕ → Verdict
@@ -48,7 +48,7 @@ resultRule InsertEntry i j r f =
     mayGrow 2 f
     then unless (ltb (little r) (channelCount f)) 11 (bankPlace f i + 34 + j * 2)
 resultRule RemoveEntry i j r f = Good
-resultRule SetTitle i j r f = unless (textOk (part r 0 32)) 5 10 then unless (textOk (part r 32 32)) 5 42
+resultRule SetHeader i j r f = unless (textOk (part r 0 32)) 5 10 then unless (textOk (part r 32 32)) 5 42
 
 -- the length of that file (proofs/LengthLaws.antt); a bank goes with its offset
 unfoldable pub resultLength : Kind → ℕ → List ℕ → ℕ
@@ -63,4 +63,4 @@ resultLength RemoveBank i f = length f - (38 + entryCount f (bankPlace f i) * 2)
 resultLength RenameBank i f = length f
 resultLength InsertEntry i f = length f + 2
 resultLength RemoveEntry i f = length f - 2
-resultLength SetTitle i f = length f
+resultLength SetHeader i f = length f

@@ -1,4 +1,4 @@
--- A plan that makes the file which an edit's rule describes, with any record of the edit's length.
+-- A plan that makes the file which an edit's rule describes, with any record of the edit's length. No promise to a caller rests on these.
 use Prim.Native.Nat.{ℕ, _-_}
 use mathlib.Core.Path.{_≡_}
 use mathlib.Core.Bool.{true}

@@ -94,6 +94,6 @@ pub fn in_use(f: &[u8], k: Kind, i: usize) -> bool
         Kind::RenameBank => false,
         Kind::InsertEntry => false,
         Kind::RemoveEntry => false,
-        Kind::SetTitle => false,
+        Kind::SetHeader => false,
     }
 }

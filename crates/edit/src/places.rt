@@ -64,7 +64,7 @@ pub fn place_ok(f: &[u8], k: Kind, i: usize, j: usize) -> bool
         Kind::RenameBank => below(i, j, bank_count(f)),
         Kind::InsertEntry => i < bank_count(f) && j <= entries_in(f, i),
         Kind::RemoveEntry => i < bank_count(f) && j < entries_in(f, i),
-        Kind::SetTitle => i == 0 && j == 0,
+        Kind::SetHeader => i == 0 && j == 0,
     }
 }
 
@@ -85,7 +85,7 @@ pub fn count_ok(f: &[u8], k: Kind, i: usize) -> bool
         Kind::RemoveBank => true,
         Kind::RenameBank => true,
         Kind::RemoveEntry => true,
-        Kind::SetTitle => true,
+        Kind::SetHeader => true,
     }
 }
 

@@ -222,6 +222,6 @@ pub fn plan_of(f: &[u8], k: Kind, i: usize, j: usize) -> Plan
         Kind::RenameBank => bank_over(f, i),
         Kind::InsertEntry => entry_in(f, i, j),
         Kind::RemoveEntry => entry_out(f, i, j),
-        Kind::SetTitle => Plan::Replace(10),
+        Kind::SetHeader => Plan::Replace(10),
     }
 }

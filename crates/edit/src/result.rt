@@ -168,7 +168,7 @@ pub fn result_verdict(f: &[u8], k: Kind, i: usize, j: usize, r: &[u8]) -> Verdic
         Kind::RenameBank => rename_bank(f, i, r),
         Kind::InsertEntry => insert_entry(f, i, j, r),
         Kind::RemoveEntry => Verdict::Good,
-        Kind::SetTitle => set_title(r),
+        Kind::SetHeader => set_title(r),
     }
 }
 
@@ -189,6 +189,6 @@ pub fn result_length(f: &[u8], k: Kind, i: usize) -> usize
         Kind::RenameBank => f.len(),
         Kind::InsertEntry => f.len() + 2,
         Kind::RemoveEntry => f.len() - 2,
-        Kind::SetTitle => f.len(),
+        Kind::SetHeader => f.len(),
     }
 }

@@ -19,7 +19,7 @@ use Rattle.codeplug.proofs.Laws.{file-good}
 use Rattle.journal.specs.Entry.{Entries, whole, broken, entriesOf, entrySize, historyBytes}
 use Rattle.journal.specs.Scan.{numberOfEntries}
 use Rattle.journal.specs.Change.{entryOf}
-use Rattle.journal.specs.Machine.{State, holding, isWhole, fileOf, historyOf, stands, refused, done, newEntry, editRule, editOutcome, editStep}
+use Rattle.journal.specs.Machine.{State, holding, isWhole, fileOf, historyOf, buffersRule, refused, done, newEntry, editRule, editOutcome, editStep}
 use Rattle.journal.specs.Span.{spanOf, entryFrom, Sound, spanSize, recordedIn}
 use Rattle.journal.specs.declared.answer.Answer.the-variants as answer
 use Rattle.journal.specs.declared.recording.Span.{Span}
@@ -44,8 +44,8 @@ use Rattle.editor.proofs.StandLaws.{stand-inside}
 
 -- ---- buffers that stand
 
-pub stand-file : (m : State) → stands editing m ≡ Good → fileRule (fileOf m) ≡ Good
-unfolding stands
+pub stand-file : (m : State) → buffersRule editing m ≡ Good → fileRule (fileOf m) ≡ Good
+unfolding buffersRule
 stand-file m e = then-good _ _ (then-good _ _ e .1) .0
 
 whole-held : (t : Entries) → isWhole t ≡ Good → numberOfEntries t ≡ read.Broken → ⊥
@@ -53,36 +53,36 @@ unfolding numberOfEntries isWhole
 whole-held (whole es) e b = let z : _≡_ {A = ℕ} 0 1 = cc in absurd (omega arith)
 whole-held broken e b = let z : _≡_ {A = ℕ} 0 1 = cc in absurd (omega arith)
 
-stand-whole : (m : State) → stands editing m ≡ Good → isWhole (historyOf m) ≡ Good
-unfolding stands
+stand-whole : (m : State) → buffersRule editing m ≡ Good → isWhole (historyOf m) ≡ Good
+unfolding buffersRule
 stand-whole m e = then-good _ _ (then-good _ _ e .1) .1
 
-pub stand-entries : (m : State) → stands editing m ≡ Good → numberOfEntries (historyOf m) ≡ read.Broken → ⊥
+pub stand-entries : (m : State) → buffersRule editing m ≡ Good → numberOfEntries (historyOf m) ≡ read.Broken → ⊥
 stand-entries m e = whole-held (historyOf m) (stand-whole m e)
 
 -- ---- the call's step, by its kind
 
-pub edit-refused : (a : Asked) (m : State) (n p : ℕ) (v : Verdict) → v ≡ stands editing m → v ≡ Refused n p
+pub edit-refused : (a : Asked) (m : State) (n p : ℕ) (v : Verdict) → v ≡ buffersRule editing m → v ≡ Refused n p
     → left (answer.Refused n p) (m .room) (m .history) ≡ editStep editing a m
 unfolding editStep editRule editOutcome refused
 edit-refused a m n p v e f = rw (sym e ∙ f, then-refused (Refused n p) _ n p refl)
 
-rule-stands : (a : Asked) (m : State) → stands editing m ≡ Good
+rule-stands : (a : Asked) (m : State) → buffersRule editing m ≡ Good
     → editRule editing a m
     ≡ refuses a (length (m .room)) (fileOf m) then unless (leb (entrySize (entryOf (fileOf m) (applied a (fileOf m)))) (length (m .history))) 37 0
 unfolding editRule newEntry
 rule-stands a m e = good-then _ _ e
 
-rule-no-kind : (a : Asked) (m : State) → stands editing m ≡ Good → kindOf (a .kind) ≡ NoKind → editRule editing a m ≡ Refused 32 0
+rule-no-kind : (a : Asked) (m : State) → buffersRule editing m ≡ Good → kindOf (a .kind) ≡ NoKind → editRule editing a m ≡ Refused 32 0
 unfolding refuses refusesKind
 rule-no-kind a m e f = rule-stands a m e ∙ rw f (then-refused (Refused 32 0) _ 32 0 refl)
 
-pub edit-no-kind : (a : Asked) (m : State) (k : KindRead) → stands editing m ≡ Good → k ≡ kindOf (a .kind) → k ≡ NoKind
+pub edit-no-kind : (a : Asked) (m : State) (k : KindRead) → buffersRule editing m ≡ Good → k ≡ kindOf (a .kind) → k ≡ NoKind
     → left (answer.Refused 32 0) (m .room) (m .history) ≡ editStep editing a m
 unfolding editStep editOutcome refused
 edit-no-kind a m k e f g = rw (rule-no-kind a m e (sym f ∙ g))
 
-rule-known : (a : Asked) (m : State) (k : Kind) → stands editing m ≡ Good → kindOf (a .kind) ≡ Known k
+rule-known : (a : Asked) (m : State) (k : Kind) → buffersRule editing m ≡ Good → kindOf (a .kind) ≡ Known k
     → editRule editing a m ≡ knownRule k (a .first) (a .second) (a .bytes) m
 unfolding refuses refusesKind applied appliedKind knownRule
 rule-known a m k e f = rule-stands a m e ∙ rw f
@@ -100,7 +100,7 @@ outcome-known a m k (Refused n p) broken f g e = refl
 outcome-known a m k Good (whole es) f g e = rw (applied-known a k (fileOf m) f, e)
 outcome-known a m k Good broken f g e = let z : _≡_ {A = ℕ} 0 1 = cc in absurd (omega arith)
 
-pub edit-known : (a : Asked) (m : State) (k : Kind) (r : KindRead) → stands editing m ≡ Good → r ≡ kindOf (a .kind) → r ≡ Known k
+pub edit-known : (a : Asked) (m : State) (k : Kind) (r : KindRead) → buffersRule editing m ≡ Good → r ≡ kindOf (a .kind) → r ≡ Known k
     → knownStep k (a .first) (a .second) (a .bytes) m ≡ editStep editing a m
 unfolding editStep knownStep
 edit-known a m k r e f g =
@@ -131,22 +131,22 @@ pub record Changes (d : List ℕ) (len : ℕ) (h : List ℕ) (used : ℕ) (g : L
   pub old-long : length (part d (s .place) (s .taken)) ≡ s .taken
   pub entry-is : entryFrom s (part d (s .place) (s .taken)) ≡ entryOf (take len d) g
 
-pub stand-accepted : (d : List ℕ) (len : ℕ) (h : List ℕ) (used : ℕ) → stands editing (lent d len h used) ≡ Good
+pub stand-accepted : (d : List ℕ) (len : ℕ) (h : List ℕ) (used : ℕ) → buffersRule editing (lent d len h used) ≡ Good
     → fileRule (take len d) ≡ Good
 unfolding fileOf
 stand-accepted d len h used fine = stand-file (lent d len h used) fine
 
-pub stand-short : (d : List ℕ) (len : ℕ) (h : List ℕ) (used : ℕ) → stands editing (lent d len h used) ≡ Good → length (take len d) ≤ 1_048_576
+pub stand-short : (d : List ℕ) (len : ℕ) (h : List ℕ) (used : ℕ) → buffersRule editing (lent d len h used) ≡ Good → length (take len d) ≤ 1_048_576
 stand-short d len h used fine = file-good (take len d) (stand-accepted d len h used fine) .short
 
-stand-unbroken : (d : List ℕ) (len : ℕ) (h : List ℕ) (used : ℕ) → stands editing (lent d len h used) ≡ Good
+stand-unbroken : (d : List ℕ) (len : ℕ) (h : List ℕ) (used : ℕ) → buffersRule editing (lent d len h used) ≡ Good
     → numberOfEntries (entriesOf (take used h)) ≡ read.Broken
     → ⊥
 unfolding historyOf
 stand-unbroken d len h used fine = stand-entries (lent d len h used) fine
 
 module _ (d : List ℕ) (len : ℕ) (h : List ℕ) (used : ℕ) (g : List ℕ) where
-  changes-at : stands editing (lent d len h used) ≡ Good → length g ≤ 1_048_576 → Changes d len h used g (spanOf (entryOf (take len d) g))
+  changes-at : buffersRule editing (lent d len h used) ≡ Good → length g ≤ 1_048_576 → Changes d len h used g (spanOf (entryOf (take len d) g))
   changes-at fine small =
       let f = take len d in
       let s = spanOf (entryOf f g) in
@@ -168,7 +168,7 @@ module _ (d : List ℕ) (len : ℕ) (h : List ℕ) (used : ℕ) (g : List ℕ) w
         entry-is = ap (λ (b : List ℕ). entryFrom s b) (sym (o .1 ∙ q)) ∙ span-entry (entryOf f g);
       }
 
-  pub changes : (s : Span) → stands editing (lent d len h used) ≡ Good → length g ≤ 1_048_576 → s ≡ spanOf (entryOf (take len d) g)
+  pub changes : (s : Span) → buffersRule editing (lent d len h used) ≡ Good → length g ≤ 1_048_576 → s ≡ spanOf (entryOf (take len d) g)
       → Changes d len h used g s
   changes s fine small e = rw e (changes-at fine small)
 

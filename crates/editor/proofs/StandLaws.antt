@@ -14,7 +14,7 @@ use Rattle.fields.proofs.Laws.{then-good, unless-good}
 use Rattle.codeplug.specs.File.{fileRule}
 use Rattle.journal.specs.Entry.{Entries, whole, broken, entriesOf}
 use Rattle.journal.specs.Scan.{numberOfEntries}
-use Rattle.journal.specs.Machine.{isWhole, fileOf, historyOf, stands}
+use Rattle.journal.specs.Machine.{isWhole, fileOf, historyOf, buffersRule}
 use Rattle.journal.specs.declared.scan.HistoryRead.{HistoryRead}
 use Rattle.journal.specs.declared.scan.HistoryRead.the-variants as read
 use Rattle.edit.specs.Setting.{editing}
@@ -41,18 +41,18 @@ whole-bad s e f = rw (broken-by (entriesOf s) (sym e ∙ f))
 
 -- ---- all three
 
-pub stand-room : (d : List ℕ) (len : ℕ) (h : List ℕ) (used : ℕ) → length d < len → Refused 30 0 ≡ stands editing (lent d len h used)
-unfolding stands unless _then_
+pub stand-room : (d : List ℕ) (len : ℕ) (h : List ℕ) (used : ℕ) → length d < len → Refused 30 0 ≡ buffersRule editing (lent d len h used)
+unfolding buffersRule unless _then_
 stand-room d len h used g = rw (lt-leb len (length d) g)
 
 pub stand-history : (d : List ℕ) (len : ℕ) (h : List ℕ) (used : ℕ) → len ≤ length d → length h < used
-    → Refused 30 0 ≡ stands editing (lent d len h used)
-unfolding stands unless _then_
+    → Refused 30 0 ≡ buffersRule editing (lent d len h used)
+unfolding buffersRule unless _then_
 stand-history d len h used f g = rw (le-leb len (length d) f, lt-leb used (length h) g)
 
 pub stand-both : (d : List ℕ) (len : ℕ) (h : List ℕ) (used : ℕ) (v w r : Verdict) → len ≤ length d → used ≤ length h → v ≡ fileRule (take len d)
-    → w ≡ isWhole (entriesOf (take used h)) → r ≡ v then w → r ≡ stands editing (lent d len h used)
-unfolding stands unless _then_ fileOf historyOf
+    → w ≡ isWhole (entriesOf (take used h)) → r ≡ v then w → r ≡ buffersRule editing (lent d len h used)
+unfolding buffersRule unless _then_ fileOf historyOf
 stand-both d len h used v w r f g e i j = rw (le-leb len (length d) f, le-leb used (length h) g, ← e, ← i) j
 
 pub and-both : (a b : Bool) → a && b ≡ true → (a ≡ true) × (b ≡ true)
@@ -61,9 +61,9 @@ and-both true false e = absurd (true≢false (sym e))
 and-both false b e = absurd (true≢false (sym e))
 
 -- buffers that stand
-pub stand-inside : (d : List ℕ) (len : ℕ) (h : List ℕ) (used : ℕ) → stands editing (lent d len h used) ≡ Good
+pub stand-inside : (d : List ℕ) (len : ℕ) (h : List ℕ) (used : ℕ) → buffersRule editing (lent d len h used) ≡ Good
     → (len ≤ length d) × (used ≤ length h)
-unfolding stands
+unfolding buffersRule
 stand-inside d len h used e =
     let a = and-both (leb len (length d)) (leb used (length h)) (unless-good _ 30 0 (then-good _ _ e .0)) in
     (leb-true len (length d) (a .0), leb-true used (length h) (a .1))

@@ -20,7 +20,7 @@ use Rattle.moves.proofs.Laws.{spliced-whole, spliced-of, spliced-content}
 use Rattle.journal.specs.Entry.{Entry, Entries, whole, broken, entriesOf, frontOf, front, none, before, historyBytes}
 use Rattle.journal.specs.Scan.{numberOfEntries}
 use Rattle.journal.specs.Change.{revert}
-use Rattle.journal.specs.Machine.{holding, fileOf, historyOf, entryFits, stands, refused, done, topRule, undoRule, undoOutcome, undoStep}
+use Rattle.journal.specs.Machine.{holding, fileOf, historyOf, entryFits, buffersRule, refused, done, topRule, undoRule, undoOutcome, undoStep}
 use Rattle.journal.specs.declared.answer.Answer.the-variants as answer
 use Rattle.journal.specs.declared.scan.EntryHead.{EntryHead}
 use Rattle.journal.specs.declared.scan.HistoryRead.{HistoryRead}
@@ -212,12 +212,12 @@ top-is h used top r g =
 
 -- ---- the call
 
-pub undo-refused : (d : List ℕ) (len : ℕ) (h : List ℕ) (used n p : ℕ) {v : Verdict} → v ≡ stands editing (lent d len h used) → v ≡ Refused n p
+pub undo-refused : (d : List ℕ) (len : ℕ) (h : List ℕ) (used n p : ℕ) {v : Verdict} → v ≡ buffersRule editing (lent d len h used) → v ≡ Refused n p
     → left (answer.Refused n p) d h ≡ undoStep editing (lent d len h used)
 unfolding undoStep undoRule undoOutcome refused _then_
 undo-refused d len h used n p e f = rw (sym e ∙ f)
 
-module _ (d : List ℕ) (len : ℕ) (h : List ℕ) (used : ℕ) (fine : stands editing (lent d len h used) ≡ Good) where
+module _ (d : List ℕ) (len : ℕ) (h : List ℕ) (used : ℕ) (fine : buffersRule editing (lent d len h used) ≡ Good) where
   pub undo-broken : {r : HistoryRead} → r ≡ numberOfEntries (entriesOf (take used h)) → r ≡ read.Broken
       → left (answer.Refused 31 0) d h ≡ undoStep editing (lent d len h used)
   unfolding undoStep undoRule topRule undoOutcome historyOf refused _then_

@@ -2,11 +2,10 @@
 use Prim.Native.Nat.{ℕ}
 use mathlib.Core.List.{List}
 use lib.ListN.{length}
-use lib.Dec.{leb}
-use Rattle.fields.specs.Rule.{_then_, unless}
+use Rattle.fields.specs.Rule.{_then_}
 use Rattle.fields.specs.declared.rule.Verdict.{Verdict}
 use Rattle.fields.specs.declared.rule.Verdict.the-variants.{Good, Refused}
-use Rattle.journal.specs.Entry.{entrySize}
+use Rattle.journal.specs.Entry.{fitsAlone}
 use Rattle.journal.specs.Change.{entryOf}
 use Rattle.journal.specs.Span.{recordedIn}
 use Rattle.journal.specs.Machine.{State, Outcome, fileOf, historyOf, refused, done}
@@ -22,7 +21,7 @@ committed s m = done s (recordedIn (length (m .history)) (entryOf (fileOf m) s) 
 unfoldable pub knownRule : Kind → ℕ → ℕ → List ℕ → State → Verdict
 knownRule k i j r m =
     refusesKnown k i j r (length (m .room)) (fileOf m)
-    then unless (leb (entrySize (entryOf (fileOf m) (result k i j r (fileOf m)))) (length (m .history))) 37 0
+    then fitsAlone (entryOf (fileOf m) (result k i j r (fileOf m))) (length (m .history))
 
 unfoldable pub knownOutcome : Verdict → Kind → ℕ → ℕ → List ℕ → State → Outcome
 knownOutcome Good k i j r m = committed (result k i j r (fileOf m)) m

@@ -19,7 +19,7 @@ ghost use lib.ListN.{length, take};
 ghost use Rattle.fields.specs.declared.rule.Verdict.the-variants.{Good};
 ghost use Rattle.journal.specs.Change.{entryOf};
 ghost use Rattle.journal.specs.Span.{spanOf, spanSize};
-ghost use Rattle.journal.specs.Machine.{stands, editStep};
+ghost use Rattle.journal.specs.Machine.{buffersRule, editStep};
 ghost use Rattle.change.specs.Plan.{planned};
 ghost use Rattle.change.specs.Fits.{Fits};
 ghost use Rattle.edit.specs.Setting.{editing};
@@ -41,7 +41,7 @@ fn commit(
     s: Span,
     bytes: &[u8],
 ) -> Answer
-    requires { ⌜ ((stands editing (lent (now room) len (now history) used) ≡ Good) × (Fits plan (now bytes) (take len (now room)))) × (((length (planned plan (now bytes) (take len (now room))) ≤ length (now room)) × (length (planned plan (now bytes) (take len (now room))) ≤ 1048576)) × ((s ≡ spanOf (entryOf (take len (now room)) (planned plan (now bytes) (take len (now room))))) × (spanSize s ≤ length (now history)))) ⌝ }
+    requires { ⌜ ((buffersRule editing (lent (now room) len (now history) used) ≡ Good) × (Fits plan (now bytes) (take len (now room)))) × (((length (planned plan (now bytes) (take len (now room))) ≤ length (now room)) × (length (planned plan (now bytes) (take len (now room))) ≤ 1048576)) × ((s ≡ spanOf (entryOf (take len (now room)) (planned plan (now bytes) (take len (now room))))) × (spanSize s ≤ length (now history)))) ⌝ }
     ensures { λ r. ⌜ left r (now (room .exit)) (now (history .exit)) ≡ committed (planned plan (now (bytes .entry)) (take len (now (room .entry)))) (lent (now (room .entry)) len (now (history .entry)) used) ⌝ }
 {
     let from = s.place;
@@ -63,7 +63,7 @@ fn edit_known(
     j: usize,
     bytes: &[u8],
 ) -> Answer
-    requires { ⌜ stands editing (lent (now room) len (now history) used) ≡ Good ⌝ }
+    requires { ⌜ buffersRule editing (lent (now room) len (now history) used) ≡ Good ⌝ }
     ensures { λ r. ⌜ left r (now (room .exit)) (now (history .exit)) ≡ knownStep k i j (now (bytes .entry)) (lent (now (room .entry)) len (now (history .entry)) used) ⌝ }
 {
     let size = room.len();

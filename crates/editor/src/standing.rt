@@ -6,7 +6,7 @@ use journal::scan::HistoryRead;
 use journal::scan::entries_in;
 ghost use mathlib.Core.Path.{_≡_};
 ghost use Rattle.journal.specs.Entry.{entriesOf};
-ghost use Rattle.journal.specs.Machine.{isWhole, stands};
+ghost use Rattle.journal.specs.Machine.{isWhole, buffersRule};
 ghost use Rattle.edit.specs.Setting.{editing};
 ghost use Rattle.editor.specs.Calls.{lent};
 
@@ -25,7 +25,7 @@ fn whole_entries(h: &[u8]) -> Verdict
 }
 
 pub fn standing(room: &[u8], len: usize, history: &[u8], used: usize) -> Verdict
-    ensures { λ r. ⌜ r ≡ stands editing (lent (now (room .entry)) len (now (history .entry)) used) ⌝ }
+    ensures { λ r. ⌜ r ≡ buffersRule editing (lent (now (room .entry)) len (now (history .entry)) used) ⌝ }
 {
     if room.len() < len {
         return Verdict::Refused(BAD_LENGTH, 0);

@@ -16,7 +16,7 @@ ghost use Prim.Native.Nat.{_+_, _-_, _≤_};
 ghost use lib.ListN.{length};
 ghost use Rattle.fields.specs.Bytes.{part};
 ghost use Rattle.fields.specs.declared.rule.Verdict.the-variants.{Good};
-ghost use Rattle.journal.specs.Machine.{holding, stands, undoStep};
+ghost use Rattle.journal.specs.Machine.{holding, buffersRule, undoStep};
 ghost use Rattle.edit.specs.Setting.{editing};
 ghost use Rattle.editor.specs.Calls.{lent, left};
 ghost use Rattle.editor.specs.Undo.{undone};
@@ -68,7 +68,7 @@ fn take_back(
 }
 
 fn undo_top(room: &mut [u8], len: usize, history: &mut [u8], used: usize) -> Answer
-    requires { ⌜ stands editing (lent (now room) len (now history) used) ≡ Good ⌝ }
+    requires { ⌜ buffersRule editing (lent (now room) len (now history) used) ≡ Good ⌝ }
     ensures { λ r. ⌜ left r (now (room .exit)) (now (history .exit)) ≡ undoStep editing (lent (now (room .entry)) len (now (history .entry)) used) ⌝ }
 {
     let HistoryRead::Entries(entries) = entries_in(&history[..used]) else {

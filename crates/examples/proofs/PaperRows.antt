@@ -17,7 +17,7 @@ use Rattle.journal.specs.Entry.{entryBytes, entriesOf, entriesUpTo, frontOf, wi
 use Rattle.journal.specs.Change.{entryOf, tailOf}
 use Rattle.journal.specs.Machine.{isWhole}
 use Rattle.plug.specs.Plug.{plugOf, plugBytes, joined, bankBytes, pairs, offsetsFrom, countBytes, blocks, banksAt}
-use Rattle.plug.specs.Edits.{kindOf, edited, insertAt, withBanks, withTitle}
+use Rattle.plug.specs.Edits.{kindOf, edited, insertAt, withBanks, withPreamble}
 use Rattle.edit.specs.Result.{result}
 use Rattle.edit.specs.Setting.{Asked, applied, appliedKind}
 use Rattle.m17.specs.Address.{encoding, decoding, addressOf, digitOf, firstForeign, foreign, endsInSpace, within, isCallsign, textFor, textUpTo, charOf}
@@ -72,5 +72,5 @@ Rows =
     × (entryBytes (entryOf (empty 0) (applied banked (empty 0))) ≡ 0x56 ∷ 0x26 ∷ 0x00 ∷ [])
 
 pub paper-rows : Rows
-unfolding encoding decoding addressOf digitOf firstForeign foreign endsInSpace within isCallsign textFor textUpTo charOf toneOf toneOk toneIndex frequencyOf toneTable zeros unless fieldOf _then_ fmRule numberBytes groups entriesOf entriesUpTo frontOf withPlace withPut withOld numberAt groupsAt atMost withGroup before restOf isWhole entryBytes entryOf tailOf commonStart commonEnd applied appliedKind kindOf result plugOf plugBytes edited insertAt withBanks withTitle joined bankBytes pairs offsetsFrom countBytes blocks banksAt contactCount channelCount bankCount contactPlace channelPlace offsetPlace banksPlace little littleBytes
+unfolding encoding decoding addressOf digitOf firstForeign foreign endsInSpace within isCallsign textFor textUpTo charOf toneOf toneOk toneIndex frequencyOf toneTable zeros unless fieldOf _then_ fmRule numberBytes groups entriesOf entriesUpTo frontOf withPlace withPut withOld numberAt groupsAt atMost withGroup before restOf isWhole entryBytes entryOf tailOf commonStart commonEnd applied appliedKind kindOf result plugOf plugBytes edited insertAt withBanks withPreamble joined bankBytes pairs offsetsFrom countBytes blocks banksAt contactCount channelCount bankCount contactPlace channelPlace offsetPlace banksPlace little littleBytes
 paper-rows = (refl, refl, refl, refl, refl, refl, refl, (refl, refl), (refl, refl), refl, refl, refl, refl, refl, refl, refl)

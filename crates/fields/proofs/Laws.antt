@@ -16,6 +16,7 @@ use lib.Arith.{digits-div, mod-mul}
 use lib.Dec.{leb}
 use borrow.Author.Tests.{le-leb, lt-leb, leb-true}
 use Rattle.fields.specs.Bytes.{part, zeros, over, little, littleBytes, bigFrom, big, bigBytes, num}
+pub use Rattle.fields.specs.Bytes.{AllBytes}
 use Rattle.fields.specs.Rule.{_then_, unless, fieldOf, each, written}
 use Rattle.fields.specs.declared.rule.Verdict.{Verdict}
 use Rattle.fields.specs.declared.rule.Verdict.the-variants.{Good, Refused}
@@ -433,10 +434,6 @@ length-written Good out s h = length-over out 0 s (omega arith)
 length-written (Refused n p) out s h = refl
 
 -- ---- bytes
-
--- every element is a byte
-abbrev pub AllBytes : List ℕ → Type 0
-AllBytes s = (i : ℕ) → getD s i 0 < 256
 
 pub bytes-nil : AllBytes []
 bytes-nil i = omega arith

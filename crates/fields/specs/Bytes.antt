@@ -1,12 +1,16 @@
 -- Parts of a byte list and numbers in bytes (document 01, "The job": all numbers are little-endian except the M17 address,
 -- which stands most significant byte first).
-use Prim.Native.Nat.{ℕ, zero, suc, _+_, _*_, _/_, _%_}
+use Prim.Native.Nat.{ℕ, zero, suc, _+_, _*_, _/_, _%_, _<_}
 use mathlib.Core.List.{List, [], _∷_, _++_}
-use lib.ListN.{length, take, drop, replicate}
+use lib.ListN.{length, take, drop, getD, replicate}
 
 -- the n bytes of s at k; fewer where s ends before that
 abbrev pub part : List ℕ → ℕ → ℕ → List ℕ
 part s k n = take n (drop k s)
+
+-- numbers that are all bytes
+abbrev pub AllBytes : List ℕ → Type 0
+AllBytes s = (i : ℕ) → getD s i 0 < 256
 
 -- n zero bytes
 unfoldable pub zeros : ℕ → List ℕ

@@ -10,15 +10,16 @@ use lib.Seq.{take-append-seam}
 use lib.Dec.{leb}
 use borrow.Author.Tests.{leb-false}
 use Rattle.fields.specs.Rule.{_then_, unless}
-use Rattle.fields.proofs.Laws.{AllBytes}
+use Rattle.fields.specs.Bytes.{AllBytes}
 use Rattle.fields.specs.declared.rule.Verdict.{Verdict}
 use Rattle.fields.specs.declared.rule.Verdict.the-variants as verdict
 use Rattle.journal.specs.Entry.{entrySize, historyBytes, whole}
 use Rattle.journal.specs.Change.{entryOf}
 use Rattle.journal.specs.Setting.{Setting, Call, edit, undo}
-use Rattle.journal.specs.Machine.{State, opened, fileOf, historyOf, stands, step, next, answers, final}
+use Rattle.journal.specs.Promise.{EveryEdit, EveryList}
+use Rattle.journal.specs.Machine.{State, opened, fileOf, historyOf, buffersRule, step, next, answers, final}
 use Rattle.journal.specs.Book.{Book, book, bookFile, fileAfter, keptEntries, bookEditRule, withEdit, afterEdit, anyKept, withoutLast}
-use Rattle.journal.specs.Book.{withStanding, bookUndoRule, afterUndo, state, answerBy, bookNext, bookAnswer, bookAnswers, bookFinal}
+use Rattle.journal.specs.Book.{withStanding, bookUndoRule, afterUndo, bookLengths, answerBy, bookNext, bookAnswer, bookAnswers, bookFinal}
 use Rattle.journal.specs.declared.answer.Answer.the-variants.{Done, Refused}
 use Rattle.journal.proofs.StepLaws.{Follows, Step, newestFirst, file-fine, edit-step, undo-step, entries-in, stands-good}
 
@@ -31,12 +32,6 @@ pub record Laws (S : Setting) (P : S .Edit → Type 0) : Type 0 where
       → S .refuses e room f ≡ verdict.Good
       → (S .accepts (S .applied e f) ≡ verdict.Good) × ((length (S .applied e f) ≤ room) × AllBytes (S .applied e f))
   pub short : (f : List ℕ) → S .accepts f ≡ verdict.Good → length f ≤ 1_048_576
-
--- every edit of a list of calls is one of those
-abbrev pub EveryEdit : (S : Setting) → (S .Edit → Type 0) → List (Call S) → Type 0
-EveryEdit S P [] = Unit
-EveryEdit S P (edit e ∷ l) = P e × EveryEdit S P l
-EveryEdit S P (undo ∷ l) = EveryEdit S P l
 
 -- ---- call by call
 
@@ -92,10 +87,7 @@ follows-opened S f spare h good bytes =
 -- ---- the promise
 
 -- the file f opened in a room with any spare bytes, and any history buffer
-pub promise : (S : Setting) (P : S .Edit → Type 0) (L : Laws S P) (f spare h : List ℕ) → S .accepts f ≡ verdict.Good → AllBytes f
-    → (calls : List (Call S)) → EveryEdit S P calls
-    → (answers S calls (opened f spare h) ≡ bookAnswers S calls (book S f (length (f ++ spare)) (length h)))
-    × (fileOf (final S calls (opened f spare h)) ≡ bookFile S (bookFinal S calls (book S f (length (f ++ spare)) (length h))))
+pub promise : (S : Setting) (P : S .Edit → Type 0) → Laws S P → EveryList S P
 promise S P L f spare h good bytes calls p =
     let a = agree S P L calls p (opened f spare h) (book S f (length (f ++ spare)) (length h)) (follows-opened S f spare h good bytes) in
     (a .same-answers, a .follows-on .file-is)
@@ -144,7 +136,7 @@ keeps-final S (c ∷ calls) b =
 
 -- where a book refuses
 answer-refused : (S : Setting) (v : Verdict) (b : Book S) (n p : ℕ) → answerBy S v b ≡ Refused n p → v ≡ verdict.Refused n p
-unfolding answerBy state
+unfolding answerBy bookLengths
 answer-refused S verdict.Good b n p e = let z : _≡_ {A = ℕ} 0 1 = cc in absurd (omega arith)
 answer-refused S (verdict.Refused k q) b n p e = cc
 
@@ -176,7 +168,7 @@ module _ (S : Setting) (P : S .Edit → Type 0) (L : Laws S P) (f spare h : List
   entries-after = entries-in S (L .short) (stateAfter S f spare h calls) (bookAfter S f spare h calls) follows-after
 
   -- 30, the file's own refusal and 31 do not arise
-  pub stands-after : stands S (stateAfter S f spare h calls) ≡ verdict.Good
+  pub stands-after : buffersRule S (stateAfter S f spare h calls) ≡ verdict.Good
   stands-after = stands-good S (L .short) (stateAfter S f spare h calls) (bookAfter S f spare h calls) follows-after
 
   -- an edit is refused by its own refusals of the file, and then by 37 at 0 where its entry alone exceeds the history buffer: no other

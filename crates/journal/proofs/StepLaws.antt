@@ -17,11 +17,11 @@ use Rattle.journal.specs.Entry.{Entry, whole, entrySize, historyBytes}
 use Rattle.journal.specs.History.{fittingRun, recorded}
 use Rattle.journal.specs.Change.{entryOf}
 use Rattle.journal.specs.Setting.{Setting}
-use Rattle.journal.specs.Machine.{State, Outcome, holding, fileOf, historyOf, isWhole, stands, refused, done, newEntry, editRule}
+use Rattle.journal.specs.Machine.{State, Outcome, holding, fileOf, historyOf, isWhole, buffersRule, refused, done, newEntry, editRule}
 use Rattle.journal.specs.Setting.{Call, edit, undo}
 use Rattle.journal.specs.Machine.{editOutcome, editStep, entryFits, topRule, undoRule, undoOutcome, undoStep, step, after, next}
 use Rattle.journal.specs.Book.{Standing, Book, bookFile, fileAfter, keptEntries, trimmed, withStanding, bookEditRule, withEdit}
-use Rattle.journal.specs.Book.{afterEdit, anyKept, withoutLast, bookUndoRule, afterUndo, state, answerBy, bookNext, bookAnswer}
+use Rattle.journal.specs.Book.{afterEdit, anyKept, withoutLast, bookUndoRule, afterUndo, bookLengths, answerBy, bookNext, bookAnswer}
 use Rattle.journal.specs.declared.answer.Answer.the-variants.{Done, Refused}
 use Rattle.journal.proofs.Laws.{AllGood, entries-return, recorded-kept, recorded-fits, history-size}
 use Rattle.journal.proofs.ChangeLaws.{revert-entryOf, entryOf-inside}
@@ -125,8 +125,8 @@ follows-made S m b l s es made h =
 
 -- what the book answers is what the buffers hold
 state-made : (S : Setting) (b : Book S) (l : List (Standing S)) (s : List ℕ) (es : List Entry) → Made S b l s es
-    → state S (withStanding S l b) ≡ Done (length s) (length (historyBytes es)) (length es)
-unfolding state withStanding bookFile
+    → bookLengths S (withStanding S l b) ≡ Done (length s) (length (historyBytes es)) (length es)
+unfolding bookLengths withStanding bookFile
 state-made S b l s es made =
     let k = keptEntries S (b .opening) l in
     rw (
@@ -137,12 +137,12 @@ state-made S b l s es made =
     )
 
 pub done-step : (S : Setting) (c : Call S) (m : State) (b : Book S) (l : List (Standing S)) (s : List ℕ) (es : List Entry)
-    → step S c m ≡ done s es m → bookAnswer S c b ≡ state S (bookNext S c b) → bookNext S c b ≡ withStanding S l b
+    → step S c m ≡ done s es m → bookAnswer S c b ≡ bookLengths S (bookNext S c b) → bookNext S c b ≡ withStanding S l b
     → Made S b l s es → Follows S m b → Step S c m b
 unfolding done
 done-step S c m b l s es e f g made h =
     record {
-      same-answer = ap (λ (o : Outcome). o .answer) e ∙ sym (f ∙ ap (λ (x : Book S). state S x) g ∙ state-made S b l s es made);
+      same-answer = ap (λ (o : Outcome). o .answer) e ∙ sym (f ∙ ap (λ (x : Book S). bookLengths S x) g ∙ state-made S b l s es made);
       follows = rw (next-done S c m s es e, g) (follows-made S m b l s es made h);
     }
 
@@ -160,8 +160,8 @@ module _ (S : Setting) (short : Short S) (m : State) (b : Book S) (h : Follows S
       let g : AllGood k = entries-good S short (b .roomSize) (b .opening) (b .standing) (h .all-fine) in
       rw (h .entries-are) (entries-return (reverse k) (good-reverse k g))
 
-  pub stands-good : stands S m ≡ verdict.Good
-  unfolding stands isWhole unless _then_
+  pub stands-good : buffersRule S m ≡ verdict.Good
+  unfolding buffersRule isWhole unless _then_
   stands-good =
       let fine = file-fine S m b h in
       let in-room : m .length-in-room ≤ length (m .room) = omega arith in

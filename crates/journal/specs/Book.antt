@@ -8,7 +8,7 @@ use lib.Dec.{leb}
 use Rattle.fields.specs.Rule.{_then_, unless}
 use Rattle.fields.specs.declared.rule.Verdict.{Verdict}
 use Rattle.fields.specs.declared.rule.Verdict.the-variants as verdict
-use Rattle.journal.specs.Entry.{Entry, entrySize}
+use Rattle.journal.specs.Entry.{Entry, entrySize, fitsAlone}
 use Rattle.journal.specs.Change.{entryOf}
 use Rattle.journal.specs.Setting.{Setting, Call, edit, undo}
 use Rattle.journal.specs.declared.answer.Answer.{Answer}
@@ -67,7 +67,7 @@ module _ (S : Setting) where
   unfoldable pub bookEditRule : S .Edit → Book S → Verdict
   bookEditRule e b =
       S .refuses e (b .roomSize) (bookFile b)
-      then unless (leb (entrySize (entryOf (bookFile b) (S .applied e (bookFile b)))) (b .historySize)) 37 0
+      then fitsAlone (entryOf (bookFile b) (S .applied e (bookFile b))) (b .historySize)
 
   -- it stands last, its entry kept
   unfoldable pub withEdit : S .Edit → Book S → Book S
@@ -100,12 +100,12 @@ module _ (S : Setting) where
   -- ---- a call: what it answers, and the book afterwards
 
   -- the length of the book's file, the kept entries' length together and their number
-  unfoldable pub state : Book S → Answer
-  state b =
+  unfoldable pub bookLengths : Book S → Answer
+  bookLengths b =
       Done (length (bookFile b)) (together (keptEntries (b .opening) (b .standing))) (length (keptEntries (b .opening) (b .standing)))
 
   unfoldable pub answerBy : Verdict → Book S → Answer
-  answerBy verdict.Good b = state b
+  answerBy verdict.Good b = bookLengths b
   answerBy (verdict.Refused n p) b = Refused n p
 
   unfoldable pub bookNext : Call S → Book S → Book S

@@ -5,6 +5,8 @@ use mathlib.Core.List.{List, [], _∷_, _++_}
 use lib.ListN.{length, drop}
 use lib.Dec.{leb}
 use Rattle.fields.specs.Bytes.{part}
+use Rattle.fields.specs.Rule.{unless}
+use Rattle.fields.specs.declared.rule.Verdict.{Verdict}
 use Rattle.journal.specs.Number.{numberBytes, numberAt}
 use Rattle.journal.specs.declared.number.NumberRead.{NumberRead}
 use Rattle.journal.specs.declared.number.NumberRead.the-variants.{Number, Broken}
@@ -22,6 +24,10 @@ entryBytes e = numberBytes (e .place) ++ (numberBytes (e .put) ++ (numberBytes (
 
 unfoldable pub entrySize : Entry → ℕ
 entrySize e = length (entryBytes e)
+
+-- 37: a new entry alone exceeds a history buffer of so many bytes
+abbrev pub fitsAlone : Entry → ℕ → Verdict
+fitsAlone e size = unless (leb (entrySize e) size) 37 0
 
 unfoldable pub historyBytes : List Entry → List ℕ
 historyBytes [] = []

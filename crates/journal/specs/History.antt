@@ -8,8 +8,8 @@ use Rattle.journal.specs.Entry.{Entry, entrySize}
 
 -- the longest run of entries within so many bytes
 unfoldable pub fittingRun : ℕ → List Entry → List Entry
-fittingRun room [] = []
-fittingRun room (e ∷ es) = cond (leb (entrySize e) room) (e ∷ fittingRun (room - entrySize e) es) []
+fittingRun space [] = []
+fittingRun space (e ∷ es) = cond (leb (entrySize e) space) (e ∷ fittingRun (space - entrySize e) es) []
 
 -- a history buffer of so many bytes after an edit with entry e
 unfoldable pub recorded : ℕ → Entry → List Entry → List Entry

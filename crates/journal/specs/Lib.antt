@@ -2,9 +2,11 @@
 pub mod Number
 pub mod Entry
 pub mod History
-pub mod Scan
 pub mod Change
 pub mod Setting
 pub mod Machine
-pub mod Span
 pub mod Book
+pub mod Promise
+-- how the code goes about it
+pub mod Scan
+pub mod Span

@@ -8,7 +8,7 @@ use Rattle.fields.specs.Bytes.{zeros}
 use Rattle.fields.specs.Rule.{_then_, unless, isGood}
 use Rattle.fields.specs.declared.rule.Verdict.{Verdict}
 use Rattle.fields.specs.declared.rule.Verdict.the-variants as verdict
-use Rattle.journal.specs.Entry.{Entry, Entries, whole, broken, entriesOf, entrySize, historyBytes}
+use Rattle.journal.specs.Entry.{Entry, Entries, whole, broken, entriesOf, fitsAlone, historyBytes}
 use Rattle.journal.specs.History.{recorded}
 use Rattle.journal.specs.Change.{entryOf, revert}
 use Rattle.journal.specs.Setting.{Setting, Call, edit, undo}
@@ -48,8 +48,8 @@ unfoldable pub isWhole : Entries → Verdict
 isWhole (whole es) = verdict.Good
 isWhole broken = verdict.Refused 31 0
 
-unfoldable pub stands : Setting → State → Verdict
-stands S m =
+unfoldable pub buffersRule : Setting → State → Verdict
+buffersRule S m =
     unless (leb (m .length-in-room) (length (m .room)) && leb (m .length-in-history) (length (m .history))) 30 0
     then S .accepts (fileOf m)
     then isWhole (historyOf m)
@@ -75,9 +75,9 @@ newEntry S e f = entryOf f (S .applied e f)
 
 unfoldable pub editRule : (S : Setting) → S .Edit → State → Verdict
 editRule S e m =
-    stands S m
+    buffersRule S m
     then S .refuses e (length (m .room)) (fileOf m)
-    then unless (leb (entrySize (newEntry S e (fileOf m))) (length (m .history))) 37 0
+    then fitsAlone (newEntry S e (fileOf m)) (length (m .history))
 
 -- (at Good the history is whole entries: `stands` has judged it)
 unfoldable pub editOutcome : (S : Setting) → S .Edit → State → Verdict → Entries → Outcome
@@ -103,7 +103,7 @@ topRule S (whole []) m = verdict.Refused 38 0
 topRule S (whole (e ∷ es)) m = unless (entryFits S e m) 39 0
 
 unfoldable pub undoRule : Setting → State → Verdict
-undoRule S m = stands S m then topRule S (historyOf m) m
+undoRule S m = buffersRule S m then topRule S (historyOf m) m
 
 -- (at Good the history has a top entry: `undoRule` has judged it)
 unfoldable pub undoOutcome : Setting → State → Verdict → Entries → Outcome

@@ -29,5 +29,5 @@ headOf none n = read.Broken
 
 -- the run of entries that is kept within so many bytes
 unfoldable pub runOf : Entries → ℕ → Run
-runOf (whole es) room = record { bytes = length (historyBytes (fittingRun room es)); entries = length (fittingRun room es) }
-runOf broken room = record { bytes = 0; entries = 0 }
+runOf (whole es) space = record { bytes = length (historyBytes (fittingRun space es)); entries = length (fittingRun space es) }
+runOf broken space = record { bytes = 0; entries = 0 }

@@ -1,4 +1,5 @@
--- A change by its three numbers p, k and m (document 01, "The history"), and the history with its entry put first.
+-- A change by its three numbers p, k and m, and the history with its entry put first, as the code has them. No promise to a caller rests on
+-- these.
 use Prim.Native.Nat.{ℕ, _+_, _≤_}
 use mathlib.Core.List.{List, [], _∷_}
 use lib.ListN.{length}

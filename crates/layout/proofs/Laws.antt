@@ -150,7 +150,7 @@ offset-good f n h g =
     ap (λ (p : ℕ). offsetAt f p) (sym (offset-walks f n)) ∙ each-good (offsetAt f) (bankCount f) 4 (offsetPlace f 0) h n g
 
 pub offset-inside : (f : List ℕ) (p : ℕ) → offsetAt f p ≡ Good → p + 4 ≤ length f
-offset-inside f p h = part-inside f p 4 (omega arith) (field-good (length (part f p 4)) p 0 4 10 true h .0)
+offset-inside f p h = part-inside f p 4 (omega arith) (field-good (length (part f p 4)) p 0 4 7 true h .0)
 
 -- ---- what accepted banks give
 

@@ -13,7 +13,7 @@ use Rattle.layout.specs.Places.{channelCount, bankCount, offsetPlace, ba
 -- ---- the table of offsets, inside in its turn
 
 abbrev pub offsetAt : List ℕ → ℕ → Verdict
-offsetAt f p = field (part f p 4) p 0 4 10 true
+offsetAt f p = inside (part f p 4) p 0 4
 
 unfoldable pub offsetsRule : List ℕ → Verdict
 offsetsRule f = each (offsetAt f) (bankCount f) 4 (offsetPlace f 0)

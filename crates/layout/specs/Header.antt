@@ -9,8 +9,8 @@ use Rattle.fields.specs.Rule.{_then_, field, inside}
 use Rattle.fields.specs.declared.rule.Verdict.{Verdict}
 
 -- magic 52 54 58 43 00 00 00 00, version 1, author, description
-unfoldable pub titleRule : List ℕ → Verdict
-titleRule f =
+unfoldable pub identityRule : List ℕ → Verdict
+identityRule f =
     field f 0 0 8 3 (eqb (num f 0 8) 0x43585452)
     then field f 0 8 2 4 (eqb (num f 8 2) 1)
     then field f 0 10 32 5 (textOk (part f 10 32))
@@ -19,7 +19,7 @@ titleRule f =
 -- then the timestamp and the three counts, any
 unfoldable pub headerRule : List ℕ → Verdict
 headerRule f =
-    titleRule f
+    identityRule f
     then inside f 0 74 8
     then inside f 0 82 2
     then inside f 0 84 2

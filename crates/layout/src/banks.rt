@@ -27,7 +27,7 @@ pub fn offset_at(f: &[u8], p: usize) -> Verdict
     requires { ⌜ p < 2 ^ 62 ⌝ }
     ensures { λ r. ⌜ r ≡ offsetAt (now (f .entry)) p ⌝ }
 {
-    field(lend(f, p, 4).len(), p, 0, 4, BANK_OFFSET, true)
+    field(lend(f, p, 4).len(), p, 0, 4, VALUE, true)
 }
 
 pub fn judge_offsets(f: &[u8]) -> Verdict

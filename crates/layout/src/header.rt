@@ -9,13 +9,13 @@ use fields::rule::field;
 use fields::rule::first;
 use fields::text::text_field;
 ghost use mathlib.Core.Path.{_≡_};
-ghost use Rattle.layout.specs.Header.{titleRule, headerRule};
+ghost use Rattle.layout.specs.Header.{identityRule, headerRule};
 
 // The magic number's bytes are 52 54 58 43 00 00 00 00.
 const MAGIC_NUMBER: u64 = 0x4358_5452;
 
 fn judge_title(f: &[u8]) -> Verdict
-    ensures { λ r. ⌜ r ≡ titleRule (now (f .entry)) ⌝ }
+    ensures { λ r. ⌜ r ≡ identityRule (now (f .entry)) ⌝ }
 {
     let left = f.len();
     let magic = field(left, 0, 0, 8, MAGIC, le64(f, 0) == MAGIC_NUMBER);

@@ -1,4 +1,4 @@
--- Bytes of a buffer reversed or turned, all others as they were.
+-- Bytes of a buffer reversed or turned, all others as they were: how an undo goes about it. No promise to a caller rests on these.
 use Prim.Native.Nat.{ℕ, _+_, _-_}
 use mathlib.Core.List.{List, _++_, reverse}
 use Rattle.fields.specs.Bytes.{part, over}

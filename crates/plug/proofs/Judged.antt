@@ -17,7 +17,7 @@ use Rattle.fields.specs.declared.rule.Verdict.the-variants.{Good}
 use Rattle.fields.proofs.Laws.{length-part, part-left, length-littleBytes, then-good, then-assoc, both-good, then-of-good, unless-good, unless-passes}
 use Rattle.fields.proofs.Laws.{field-inside, field-passes, each-passes}
 use Rattle.layout.specs.Places.{contactCount, channelCount, bankCount, contactPlace, channelPlace, offsetPlace, banksPlace}
-use Rattle.layout.specs.Header.{titleRule, headerRule}
+use Rattle.layout.specs.Header.{identityRule, headerRule}
 use Rattle.layout.specs.Banks.{offsetAt, offsetsRule, entryAt, entryCount, bankHead, bankAt, banksFrom, banksRule}
 use Rattle.plug.specs.Plug.{Bank, Plug, joined, pairs, bankBytes, offsetsFrom, plugBytes}
 use Rattle.plug.proofs.Blocks.{Every, Wide, Small, banksBytes, stands-part, stands-next, stands-num, length-bankBytes}
@@ -251,8 +251,8 @@ field-more a s k n number ok h =
     ∙ sym (field-inside (length a) 0 k n number ok h)
 
 -- a title with bytes behind it
-title-more : (a s : List ℕ) → 74 ≤ length a → titleRule (a ++ s) ≡ titleRule a
-unfolding titleRule
+title-more : (a s : List ℕ) → 74 ≤ length a → identityRule (a ++ s) ≡ identityRule a
+unfolding identityRule
 title-more a s h =
     rw (
       part-left a s 0 8 (omega arith),
@@ -265,7 +265,7 @@ title-more a s h =
       field-more a s 42 32 5 (textOk (part a 42 32)) (omega arith),
     )
 
-header-title : (f : List ℕ) → 88 ≤ length f → headerRule f ≡ titleRule f
+header-title : (f : List ℕ) → 88 ≤ length f → headerRule f ≡ identityRule f
 unfolding headerRule _then_
 header-title f h =
     rw (
@@ -274,7 +274,7 @@ header-title f h =
       field-passes (length f) 0 84 2 7 true (omega arith) refl,
       field-passes (length f) 0 86 2 7 true (omega arith) refl,
     )
-    (then-of-good (titleRule f))
+    (then-of-good (identityRule f))
 
 -- ---- the file of a shaped codeplug
 
@@ -308,7 +308,7 @@ module _ (c : Plug) (h : Shaped c) where
       let f = plugBytes c in
       let p = offsetPlace f 0 + i * 4 in
       let a : p + 4 ≤ length f = omega (arith, offset-place c h 0, bank-count c h, length-plug c h) in
-      field-passes (length (part f p 4)) p 0 4 10 true (rw (length-part f p 4 a) (omega arith)) refl
+      field-passes (length (part f p 4)) p 0 4 7 true (rw (length-part f p 4 a) (omega arith)) refl
 
   -- the table is inside
   pub offsets-good : offsetsRule (plugBytes c) ≡ Good
@@ -325,12 +325,12 @@ module _ (c : Plug) (h : Shaped c) where
       ∙ rw (channel-count c h))
 
   -- of the header only the title is judged
-  pub header-judged : headerRule (plugBytes c) ≡ titleRule (c .title)
+  pub header-judged : headerRule (plugBytes c) ≡ identityRule (c .preamble)
   unfolding plugBytes
   header-judged =
       let f = plugBytes c in
       let a : 88 ≤ length f = omega (arith, length-plug c h) in
-      header-title f a ∙ title-more (c .title) _ (omega (arith, h .title))
+      header-title f a ∙ title-more (c .preamble) _ (omega (arith, h .preamble))
 
   -- the file is one that the laws of accepted files speak of
   pub laid-of : Every (BankGood (length (c .channels))) (c .banks) → length (plugBytes c) < 2 ^ 32 → Laid (plugBytes c)

@@ -28,8 +28,8 @@ pub record BankShaped (b : Bank) : Type 0 where
   pub small : Every Small (b .entries)
 
 pub record Shaped (c : Plug) : Type 0 where
-  pub title : length (c .title) ≡ 82
-  pub titleBytes : AllBytes (c .title)
+  pub preamble : length (c .preamble) ≡ 82
+  pub titleBytes : AllBytes (c .preamble)
   pub contactsFit : length (c .contacts) < 65536
   pub contacts : Wide 39 (c .contacts)
   pub contactsBytes : Every AllBytes (c .contacts)
@@ -151,7 +151,7 @@ bytes-counts c =
 module _ (c : Plug) (h : Shaped c) where
   from-counts : drop 82 (plugBytes c) ≡ countBytes c ++ contactsOn c
   unfolding plugBytes
-  from-counts = drop-at (c .title) (countBytes c ++ contactsOn c) 82 (h .title)
+  from-counts = drop-at (c .preamble) (countBytes c ++ contactsOn c) 82 (h .preamble)
 
   pub from-contacts : drop 88 (plugBytes c) ≡ contactsOn c
   from-contacts = stands-next (plugBytes c) 82 (countBytes c) (contactsOn c) 6 from-counts (length-counts c)
@@ -181,12 +181,12 @@ module _ (c : Plug) (h : Shaped c) where
         length-joined 90 (c .channels) (h .channels),
         length-offsets,
       )
-      (omega (arith, h .title))
+      (omega (arith, h .preamble))
 
   pub bytes-plug : AllBytes (plugBytes c)
   unfolding plugBytes
   bytes-plug =
-      bytes-append (c .title) _ (h .titleBytes)
+      bytes-append (c .preamble) _ (h .titleBytes)
       (bytes-append (countBytes c) _ (bytes-counts c)
       (bytes-append (joined (c .contacts)) _ (bytes-joined (c .contacts) (h .contactsBytes))
       (bytes-append (joined (c .channels)) _ (bytes-joined (c .channels) (h .channelsBytes))
@@ -235,9 +235,9 @@ module _ (c : Plug) (h : Shaped c) where
 
   -- ---- records
 
-  pub title-part : take 82 (plugBytes c) ≡ c .title
+  pub title-part : take 82 (plugBytes c) ≡ c .preamble
   unfolding plugBytes
-  title-part = take-at (c .title) (countBytes c ++ contactsOn c) 82 (h .title)
+  title-part = take-at (c .preamble) (countBytes c ++ contactsOn c) 82 (h .preamble)
 
   pub contact-part : (i : ℕ) → i < length (c .contacts) → part (plugBytes c) (contactPlace i) 39 ≡ getD (c .contacts) i []
   unfolding contactPlace
@@ -348,7 +348,7 @@ shaped-of f h =
     let b = offsets-start f in
     let d = banks-start f in
     record {
-      title = length-take-le 82 f (omega (arith, h .header));
+      preamble = length-take-le 82 f (omega (arith, h .header));
       titleBytes = bytes-take 82 f (h .bytes);
       contactsFit = rw (length-blocks 39 (contactCount f) (drop (contactPlace 0) f)) (contactCount-lt f (h .bytes));
       contacts = blocks-wide 39 (contactCount f) (drop (contactPlace 0) f) (rw (contacts-start, length-drop) (omega arith));

@@ -9,7 +9,7 @@ use Rattle.channel.specs.Channel.{dmrContactAt, m17ContactAt, namedContact}
 use Rattle.channel.specs.declared.ContactIndex.{ContactIndex}
 use Rattle.channel.specs.declared.ContactIndex.the-variants.{Nobody, Index}
 use Rattle.plug.specs.declared.Kind.{Kind}
-use Rattle.plug.specs.declared.Kind.the-variants.{InsertContact, RemoveContact, ReplaceContact, InsertChannel, RemoveChannel, ReplaceChannel, InsertBank, RemoveBank, RenameBank, InsertEntry, RemoveEntry, SetTitle}
+use Rattle.plug.specs.declared.Kind.the-variants.{InsertContact, RemoveContact, ReplaceContact, InsertChannel, RemoveChannel, ReplaceChannel, InsertBank, RemoveBank, RenameBank, InsertEntry, RemoveEntry, SetHeader}
 use Rattle.plug.specs.declared.KindRead.{KindRead}
 use Rattle.plug.specs.declared.KindRead.the-variants as read
 use Rattle.plug.specs.Plug.{Bank, Plug}
@@ -30,7 +30,7 @@ kindOf n =
     (cond (eqb n 9) (read.Known RenameBank)
     (cond (eqb n 10) (read.Known InsertEntry)
     (cond (eqb n 11) (read.Known RemoveEntry)
-    (cond (eqb n 12) (read.Known SetTitle)
+    (cond (eqb n 12) (read.Known SetHeader)
     read.NoKind)))))))))))
 
 unfoldable pub recordLength : Kind → ℕ
@@ -45,7 +45,7 @@ recordLength RemoveBank = 0
 recordLength RenameBank = 32
 recordLength InsertEntry = 2
 recordLength RemoveEntry = 0
-recordLength SetTitle = 72
+recordLength SetHeader = 72
 
 -- ---- lists
 
@@ -91,16 +91,16 @@ moveEntries move b = record { name = b .name; entries = map move (b .entries) }
 -- ---- the codeplug after an edit
 
 unfoldable pub withContacts : List (List ℕ) → Plug → Plug
-withContacts l c = record { title = c .title; contacts = l; channels = c .channels; banks = c .banks }
+withContacts l c = record { preamble = c .preamble; contacts = l; channels = c .channels; banks = c .banks }
 
 unfoldable pub withChannels : List (List ℕ) → Plug → Plug
-withChannels l c = record { title = c .title; contacts = c .contacts; channels = l; banks = c .banks }
+withChannels l c = record { preamble = c .preamble; contacts = c .contacts; channels = l; banks = c .banks }
 
 unfoldable pub withBanks : List Bank → Plug → Plug
-withBanks l c = record { title = c .title; contacts = c .contacts; channels = c .channels; banks = l }
+withBanks l c = record { preamble = c .preamble; contacts = c .contacts; channels = c .channels; banks = l }
 
-unfoldable pub withTitle : List ℕ → Plug → Plug
-withTitle s c = record { title = s; contacts = c .contacts; channels = c .channels; banks = c .banks }
+unfoldable pub withPreamble : List ℕ → Plug → Plug
+withPreamble s c = record { preamble = s; contacts = c .contacts; channels = c .channels; banks = c .banks }
 
 -- every DMR and M17 channel's contact index moved
 unfoldable pub moveContacts : (ℕ → ℕ) → Plug → Plug
@@ -110,8 +110,8 @@ moveContacts move c = withChannels (map (moveContact move) (c .channels)) c
 unfoldable pub moveChannels : (ℕ → ℕ) → Plug → Plug
 moveChannels move c = withBanks (map (moveEntries move) (c .banks)) c
 
-unfoldable pub named : List ℕ → Bank → Bank
-named r b = record { name = r; entries = b .entries }
+unfoldable pub renamed : List ℕ → Bank → Bank
+renamed r b = record { name = r; entries = b .entries }
 
 unfoldable pub withEntries : (List ℕ → List ℕ) → Bank → Bank
 withEntries g b = record { name = b .name; entries = g (b .entries) }
@@ -125,10 +125,10 @@ edited RemoveChannel i j r c = withChannels (removeAt i (c .channels)) (moveChan
 edited ReplaceChannel i j r c = withChannels (replaceAt i r (c .channels)) c
 edited InsertBank i j r c = withBanks (insertAt i (record { name = r; entries = [] }) (c .banks)) c
 edited RemoveBank i j r c = withBanks (removeAt i (c .banks)) c
-edited RenameBank i j r c = withBanks (changeAt i (named r) (c .banks)) c
+edited RenameBank i j r c = withBanks (changeAt i (renamed r) (c .banks)) c
 edited InsertEntry i j r c = withBanks (changeAt i (withEntries (insertAt j (little r))) (c .banks)) c
 edited RemoveEntry i j r c = withBanks (changeAt i (withEntries (removeAt j)) (c .banks)) c
-edited SetTitle i j r c = withTitle (take 10 (c .title) ++ r) c
+edited SetHeader i j r c = withPreamble (take 10 (c .preamble) ++ r) c
 
 -- ---- what refuses an edit before its result is read
 
@@ -160,7 +160,7 @@ placeOk RemoveBank i j c = existing i (length (c .banks)) && unused j
 placeOk RenameBank i j c = existing i (length (c .banks)) && unused j
 placeOk InsertEntry i j c = existing i (length (c .banks)) && insertion j (entriesIn i (c .banks))
 placeOk RemoveEntry i j c = existing i (length (c .banks)) && existing j (entriesIn i (c .banks))
-placeOk SetTitle i j c = unused i && unused j
+placeOk SetHeader i j c = unused i && unused j
 
 -- 34: the count to grow is 65,535
 abbrev pub canGrow : ℕ → Bool
@@ -178,7 +178,7 @@ countOk RemoveBank i c = true
 countOk RenameBank i c = true
 countOk InsertEntry i c = canGrow (entriesIn i (c .banks))
 countOk RemoveEntry i c = true
-countOk SetTitle i c = true
+countOk SetHeader i c = true
 
 -- 35: some DMR or M17 channel names contact i
 unfoldable pub isIndex : ℕ → ContactIndex → Bool
@@ -210,4 +210,4 @@ inUse RemoveBank i c = false
 inUse RenameBank i c = false
 inUse InsertEntry i c = false
 inUse RemoveEntry i c = false
-inUse SetTitle i c = false
+inUse SetHeader i c = false

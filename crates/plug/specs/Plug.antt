@@ -13,7 +13,7 @@ pub record Bank : Type 0 where
 
 -- the header's 82 bytes before the counts, contacts of 39 bytes, channels of 90, banks
 pub record Plug : Type 0 where
-  pub title : List ℕ
+  pub preamble : List ℕ
   pub contacts : List (List ℕ)
   pub channels : List (List ℕ)
   pub banks : List Bank
@@ -42,7 +42,7 @@ countBytes c = littleBytes 2 (length (c .contacts)) ++ (littleBytes 2 (length (c
 
 unfoldable pub plugBytes : Plug → List ℕ
 plugBytes c =
-    c .title ++ (countBytes c ++ (joined (c .contacts) ++ (joined (c .channels) ++
+    c .preamble ++ (countBytes c ++ (joined (c .contacts) ++ (joined (c .channels) ++
     (offsetsFrom 0 (c .banks) ++ joined (map bankBytes (c .banks))))))
 
 -- ---- the codeplug of a file
@@ -65,7 +65,7 @@ banksAt f (suc n) p =
 unfoldable pub plugOf : List ℕ → Plug
 plugOf f =
     record {
-      title = take 82 f;
+      preamble = take 82 f;
       contacts = blocks 39 (contactCount f) (drop (contactPlace 0) f);
       channels = blocks 90 (channelCount f) (drop (channelPlace f 0) f);
       banks = banksAt f (bankCount f) (banksPlace f);

@@ -15,7 +15,7 @@ pub enum Kind {
     RenameBank,
     InsertEntry,
     RemoveEntry,
-    SetTitle,
+    SetHeader,
 }
 
 pub enum KindRead {
@@ -39,7 +39,7 @@ pub fn kind_of(n: usize) -> KindRead
         9 => KindRead::Known(Kind::RenameBank),
         10 => KindRead::Known(Kind::InsertEntry),
         11 => KindRead::Known(Kind::RemoveEntry),
-        12 => KindRead::Known(Kind::SetTitle),
+        12 => KindRead::Known(Kind::SetHeader),
         _ => KindRead::NoKind,
     }
 }
@@ -56,7 +56,7 @@ pub fn record_length(k: Kind) -> usize
         Kind::InsertBank => 32,
         Kind::RenameBank => 32,
         Kind::InsertEntry => 2,
-        Kind::SetTitle => 72,
+        Kind::SetHeader => 72,
         Kind::RemoveContact => 0,
         Kind::RemoveChannel => 0,
         Kind::RemoveBank => 0,

@@ -1,4 +1,4 @@
--- How one index or offset follows an edit (document 01, "The twelve edits").
+-- How one index or offset follows an edit.
 use Prim.Native.Nat.{ℕ, _+_, _-_}
 use Rattle.plug.specs.Edits.{raised, lowered}
 use Rattle.renumber.specs.declared.shift.Shift.{Shift}

@@ -1,5 +1,5 @@
 -- By the kind of step.
-use Rattle.capi.specs.Files.{entryAnswer}
+use Rattle.capi.specs.Files.{entryTaken}
 use borrow.Author.Needs.{needs}
 use Rattle.capi.proofs.banks.entry_answer.Statement.{statement}
 use Rattle.capi.proofs.banks.entry_answer.Tie as tie
@@ -11,11 +11,11 @@ enum-known-step-2 : tie.Need-enum-known-step-2
 enum-known-step-2 c = search needs
 
 returns : tie.Need-returns
-unfolding entryAnswer
+unfolding entryTaken
 returns c = rw (c .before .step .given .1)
 
 returns-2 : tie.Need-returns-2
-unfolding entryAnswer
+unfolding entryTaken
 returns-2 c = rw (c .before .step2 .given .1)
 
 pub entry-answer-spec : {M : Type 1} → statement M

@@ -16,30 +16,18 @@ operation-ok-requires c κs = search needs
 unless-requires-2 : tie.Need-unless-requires-2
 unless-requires-2 c κs = search needs
 
-contact-index-good-requires : tie.Need-contact-index-good-requires
-contact-index-good-requires c κs = search needs
-
-unless-requires-3 : tie.Need-unless-requires-3
-unless-requires-3 c κs = search needs
-
 first-requires : tie.Need-first-requires
 first-requires c κs = search needs
-
-first-requires-2 : tie.Need-first-requires-2
-first-requires-2 c κs = search needs
 
 returns : tie.Need-returns
 unfolding infoGiven
 returns c =
     rw (
-      c .first2 .ensures,
-      c .before .first .ensures,
-      c .before .before .unless3 .ensures,
-      c .before .before .before .contact-index-good .ensures,
-      c .before .before .before .before .unless2 .ensures,
-      c .before .before .before .before .before .operation-ok .ensures,
-      c .before .before .before .before .before .before .unless .ensures,
-      c .before .before .before .before .before .before .before .halves-good .ensures,
+      c .first .ensures,
+      c .before .unless2 .ensures,
+      c .before .before .operation-ok .ensures,
+      c .before .before .before .unless .ensures,
+      c .before .before .before .before .halves-good .ensures,
     )
 
 pub m17-given-spec : {M : Type 1} → statement M
@@ -50,8 +38,5 @@ m17-given-spec =
     unless-requires
     operation-ok-requires
     unless-requires-2
-    contact-index-good-requires
-    unless-requires-3
     first-requires
-    first-requires-2
     returns)

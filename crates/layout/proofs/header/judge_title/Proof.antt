@@ -1,5 +1,5 @@
 -- The fields in order; the code and the definition have the same shape.
-use Rattle.layout.specs.Header.{titleRule}
+use Rattle.layout.specs.Header.{identityRule}
 use borrow.Author.Needs.{needs}
 use Rattle.layout.proofs.header.judge_title.Statement.{statement}
 use Rattle.layout.proofs.header.judge_title.Tie as tie
@@ -32,7 +32,7 @@ first-requires-3 : tie.Need-first-requires-3
 first-requires-3 c κs = search needs
 
 returns : tie.Need-returns
-unfolding titleRule
+unfolding identityRule
 returns c =
     let e = c .before .before .before in
     rw (
