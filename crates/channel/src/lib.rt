@@ -2,6 +2,7 @@
 pub mod judge; // judge.rt: the first bad field of a channel
 pub mod read; // read.rt: a channel's bytes to its value
 pub mod values; // values.rt: the rules of single values
+pub mod whole; // whole.rt: whether a whole channel is good, without a branch
 pub mod write; // write.rt: a channel's value to its bytes
 
 use bits::Halves;

@@ -2,6 +2,7 @@
 pub mod judge; // judge.rt: the first bad field of a contact
 pub mod read; // read.rt: a contact's bytes to its value
 pub mod settings_byte; // settings_byte.rt: the settings byte of a DMR contact
+pub mod whole; // whole.rt: whether a whole contact is good, without a branch
 pub mod write; // write.rt: a contact's value to its bytes
 
 use fields::rule::Verdict;

@@ -1,7 +1,7 @@
 -- Laws of parts, of writing over, of numbers in bytes, and of "the first bad field answers".
 use Prim.Native.Nat.{ℕ, zero, suc, _+_, _*_, _-_, _/_, _%_, _^_, _≤_, _<_}
 use mathlib.Core.Path.{_≡_, refl, ap, sym, _∙_}
-use mathlib.Core.Bool.{Bool, true, false, cond}
+use mathlib.Core.Bool.{Bool, true, false, _&&_, cond}
 use mathlib.Core.List.{List, [], _∷_, _++_, append-assoc, append-nil}
 use native.Mathlib.Omega.{arith}
 use native.Mathlib.Numerals.{add-one, one-add}
@@ -17,7 +17,7 @@ use lib.Dec.{leb}
 use borrow.Author.Tests.{le-leb, lt-leb, leb-true}
 use Rattle.fields.specs.Bytes.{part, zeros, over, little, littleBytes, bigFrom, big, bigBytes, num}
 pub use Rattle.fields.specs.Bytes.{AllBytes}
-use Rattle.fields.specs.Rule.{_then_, unless, fieldOf, each, written}
+use Rattle.fields.specs.Rule.{_then_, isGood, unless, fieldOf, each, written}
 use Rattle.fields.specs.declared.rule.Verdict.{Verdict}
 use Rattle.fields.specs.declared.rule.Verdict.the-variants.{Good, Refused}
 
@@ -316,6 +316,37 @@ field-good left base k n number ok h = by (leb (k + n) left) refl h
     by true e g = (leb-true (k + n) left e, unless-good ok number (base + k) g)
     by false e g = let z : _≡_ {A = ℕ} 0 1 = cc in absurd (omega arith)
 
+-- ---- whether nothing is refused, number and place left out
+
+pub good-told : (v : Verdict) → isGood v ≡ true → v ≡ Good
+unfolding isGood
+good-told Good h = refl
+good-told (Refused n p) h = let z : _≡_ {A = ℕ} 0 1 = cc in absurd (omega arith)
+
+pub good-both : (a b : Verdict) → isGood (a then b) ≡ isGood a && isGood b
+unfolding isGood _then_
+good-both Good b = refl
+good-both (Refused n p) b = refl
+
+pub good-unless : (ok : Bool) (number place : ℕ) → isGood (unless ok number place) ≡ ok
+unfolding isGood unless
+good-unless true number place = refl
+good-unless false number place = refl
+
+pub good-cond : (t : Bool) (a b : Verdict) → isGood (cond t a b) ≡ cond t (isGood a) (isGood b)
+good-cond true a b = refl
+good-cond false a b = refl
+
+pub good-field : (left base k n number : ℕ) (ok : Bool) → isGood (fieldOf left base k n number ok) ≡ leb (k + n) left && ok
+unfolding fieldOf isGood
+good-field left base k n number ok =
+    good-cond (leb (k + n) left) (unless ok number (base + k)) (Refused 2 (base + k))
+    ∙ rw (good-unless ok number (base + k)) (at (leb (k + n) left))
+  where
+    at : (t : Bool) → cond t ok false ≡ t && ok
+    at true = refl
+    at false = refl
+
 -- ---- runs of records
 
 pub each-suc : (rule : ℕ → Verdict) (n w p : ℕ) → each rule (suc n) w p ≡ rule p then each rule n w (p + w)
@@ -393,6 +424,12 @@ pub each-done : (rule : ℕ → Verdict) (n i w p : ℕ) (all : Verdict) → n �
 each-done rule n i w p all h e =
     let z : n - i ≡ 0 = omega arith in
     each-none rule w p ∙ sym (e ∙ rw z)
+
+-- a turn of a loop that asks whether the i-th record, at q, is good too
+pub good-turn : (rule : ℕ → Verdict) (i w p q : ℕ) (ok more : Bool) → ok ≡ isGood (each rule i w p) → q ≡ p + i * w
+    → more ≡ isGood (rule q) → ok && more ≡ isGood (each rule (i + 1) w p)
+good-turn rule i w p q ok more e f g =
+    rw (e, g, f) (sym (ap isGood (each-last rule i w p) ∙ good-both (each rule i w p) (rule (p + i * w))))
 
 -- the first bad record answers
 pub each-stop : (rule : ℕ → Verdict) (n w p i a b : ℕ) → i < n → ((j : ℕ) → j < i → rule (p + j * w) ≡ Good)

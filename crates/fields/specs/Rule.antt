@@ -14,6 +14,7 @@ unfoldable pub _then_ : Verdict → Verdict → Verdict
 Good then v = v
 (Refused n p) then v = Refused n p
 
+-- whether nothing is refused
 unfoldable pub isGood : Verdict → Bool
 isGood Good = true
 isGood (Refused n p) = false

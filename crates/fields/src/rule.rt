@@ -1,5 +1,6 @@
 // The first bad field answers (document 01, "The refusals, by number").
 ghost use mathlib.Core.Path.{_≡_};
+ghost use mathlib.Core.Bool.{cond};
 ghost use Prim.Native.Nat.{_+_, _<_, _^_};
 ghost use Rattle.fields.specs.Rule.{_then_, unless, fieldOf};
 
@@ -37,6 +38,13 @@ pub const TRAILING: u8 = 12;
 pub const SHORT_BUFFER: u8 = 25;
 // No such place.
 pub const NO_PLACE: u8 = 33;
+
+// a where the test holds, else b; without a branch.
+pub fn pick(test: bool, a: bool, b: bool) -> bool
+    ensures { λ r. ⌜ r ≡ cond test a b ⌝ }
+{
+    (test & a) | (!test & b)
+}
 
 // The first refusal of two.
 pub fn first(a: Verdict, b: Verdict) -> Verdict
