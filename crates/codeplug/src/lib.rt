@@ -4,6 +4,7 @@ pub mod judge; // judge.rt: the judge of the file
 pub mod once; // once.rt: records of a file that was judged before
 pub mod read; // read.rt: the header, contact n, channel n and bank n of a file
 pub mod records; // records.rt: the judge of the contacts and the channels
+mod whole; // whole.rt: whether all contacts and all channels are good
 
 use fields::rule::Verdict;
 use layout::Counts;

@@ -1,4 +1,6 @@
 // The judge of the contacts and the channels.
+use crate::whole::channels_good;
+use crate::whole::contacts_good;
 use channel::ContactIndex;
 use channel::read::named_contact;
 use fields::numbers::byte_at;
@@ -20,7 +22,8 @@ pub(crate) fn contact_at(f: &[u8], p: usize) -> Verdict
     contact::judge::judge(lend(f, p, 39), p)
 }
 
-pub(crate) fn judge_contacts(f: &[u8]) -> Verdict
+// The first bad contact.
+fn find_contact(f: &[u8]) -> Verdict
     ensures { λ r. ⌜ r ≡ contactsRule (now (f .entry)) ⌝ }
 {
     let contacts = contact_count(f);
@@ -35,6 +38,15 @@ pub(crate) fn judge_contacts(f: &[u8]) -> Verdict
         p += 39;
     }
     Verdict::Good
+}
+
+pub(crate) fn judge_contacts(f: &[u8]) -> Verdict
+    ensures { λ r. ⌜ r ≡ contactsRule (now (f .entry)) ⌝ }
+{
+    if contacts_good(f) {
+        return Verdict::Good;
+    }
+    find_contact(f)
 }
 
 // Whether a channel's contact index names a contact of the channel's mode.
@@ -65,7 +77,8 @@ pub(crate) fn channel_at(f: &[u8], p: usize) -> Verdict
     channel::judge::judge(s, p, index_ok(f, s))
 }
 
-pub(crate) fn judge_channels(f: &[u8]) -> Verdict
+// The first bad channel.
+fn find_channel(f: &[u8]) -> Verdict
     ensures { λ r. ⌜ r ≡ channelsRule (now (f .entry)) ⌝ }
 {
     let channels = channel_count(f);
@@ -80,4 +93,13 @@ pub(crate) fn judge_channels(f: &[u8]) -> Verdict
         p += 90;
     }
     Verdict::Good
+}
+
+pub(crate) fn judge_channels(f: &[u8]) -> Verdict
+    ensures { λ r. ⌜ r ≡ channelsRule (now (f .entry)) ⌝ }
+{
+    if channels_good(f) {
+        return Verdict::Good;
+    }
+    find_channel(f)
 }

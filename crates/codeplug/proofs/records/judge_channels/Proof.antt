@@ -1,82 +1,21 @@
--- The invariant: the channels from the i-th on, which stands at p, answer for all.
-use Rattle.codeplug.specs.File.{channelAt, channelsRule}
-use Rattle.fields.proofs.Laws.{each-next, each-bad, each-done}
-use Rattle.fields.specs.Rule.{each}
-use Prim.Native.Nat.{_+_, _*_, _-_, _≤_}
-use mathlib.Core.Path.{_≡_}
-use native.Mathlib.Nat.{sub-zero}
+-- Where the test says yes nothing is refused; else the first bad one is looked for.
+use mathlib.Core.Path.{sym}
 use borrow.Author.Needs.{needs}
-use native.Mathlib.Omega.{arith}
 use Rattle.codeplug.proofs.records.judge_channels.Statement.{statement}
 use Rattle.codeplug.proofs.records.judge_channels.Tie as tie
 
-abbrev Inv-loop : tie.InvT-loop
-Inv-loop f channels i₀ p₀ i p = (i ≤ channels) × ((p ≡ p₀ + i * 90) × (channelsRule f ≡ each (channelAt f) (channels - i) 90 p))
+channels-good-requires : tie.Need-channels-good-requires
+channels-good-requires c κs = search needs
 
-abbrev μ-loop : tie.MeasureT-loop
-μ-loop f channels i₀ p₀ i p = channels - i
+returns : tie.Need-returns
+returns c = sym (c .before .channels-good .ensures (c .if1 .taken))
 
-channel-count-requires : tie.Need-channel-count-requires Inv-loop μ-loop
-channel-count-requires c κs = search needs
+find-channel-requires : tie.Need-find-channel-requires
+find-channel-requires c κs = search needs
 
-channel-place-requires : tie.Need-channel-place-requires Inv-loop μ-loop
-channel-place-requires c κs = search needs
-
-loop-holds : tie.Need-loop-holds Inv-loop μ-loop
-unfolding channelsRule
-loop-holds c = (omega arith, (omega arith, rw (sub-zero, c .channel-place .ensures .0, c .before .channel-count .ensures .0)))
-
-channel-at-requires : tie.Need-channel-at-requires Inv-loop μ-loop
-channel-at-requires c κs = omega arith
-
-enum-told : tie.Need-enum-told Inv-loop μ-loop
-enum-told c = search needs
-
-returns : tie.Need-returns Inv-loop μ-loop
-returns c =
-    let e = c .before .before in
-    let l = e .before .before .loop in
-    each-bad (channelAt _) _ (l .i) 90 (l .p) _ _ _ _ (omega arith) (l .inv .1 .1) (e .channel-at .ensures) (c .enum-told .given .1)
-
-enum-told-2 : tie.Need-enum-told-2 Inv-loop μ-loop
-enum-told-2 c = search needs
-
-add-i : tie.Need-add-i Inv-loop μ-loop
-add-i c = omega arith
-
-add-p : tie.Need-add-p Inv-loop μ-loop
-add-p c = omega arith
-
-loop-less : tie.Need-loop-less Inv-loop μ-loop
-loop-less c = omega arith
-
-loop-again : tie.Need-loop-again Inv-loop μ-loop
-loop-again c =
-    let e = c .before .before in
-    let l = e .before .before .loop in
-    let next = each-next (channelAt _) _ (l .i) 90 (l .p) _ _ (omega arith) (l .inv .1 .1) (e .channel-at .ensures) (c .enum-told2 .given .1) in
-    (omega arith, (omega arith, next))
-
-returns-2 : tie.Need-returns-2 Inv-loop μ-loop
-returns-2 c =
-    let l = c .before .loop in
-    each-done (channelAt _) _ (l .i) 90 (l .p) _ (omega arith) (l .inv .1 .1)
+returns-2 : tie.Need-returns-2
+returns-2 c = search needs
 
 pub judge-channels-spec : {M : Type 1} → statement M
 judge-channels-spec =
-    tie.close
-    (tie.spec
-    Inv-loop
-    μ-loop
-    channel-count-requires
-    channel-place-requires
-    loop-holds
-    channel-at-requires
-    enum-told
-    returns
-    enum-told-2
-    add-i
-    add-p
-    loop-less
-    loop-again
-    returns-2)
+    tie.close (tie.spec channels-good-requires returns find-channel-requires returns-2)
