@@ -1,27 +1,15 @@
--- Laws of the test that all contacts and all channels are good.
-use Prim.Native.Nat.{ℕ, _+_, _≤_}
-use mathlib.Core.Path.{_≡_, refl, sym, _∙_}
+-- Whether a channel's index names a contact, as the test of whole channels asks it.
+use Prim.Native.Nat.{ℕ, _+_}
+use mathlib.Core.Path.{_≡_, refl, sym}
 use mathlib.Core.Bool.{Bool, true, false, _&&_, _||_, cond}
 use mathlib.Core.List.{List}
 use lib.ListN.{getD}
 use lib.Dec.{ltb, eqb}
 use Rattle.fields.specs.Bytes.{num}
-use Rattle.fields.specs.Rule.{isGood, each}
-use Rattle.fields.specs.declared.rule.Verdict.{Verdict}
-use Rattle.fields.specs.declared.rule.Verdict.the-variants.{Good}
-use Rattle.fields.proofs.Laws.{good-told, each-end}
 use Rattle.channel.specs.Channel.{contactIndexOf, namedContact}
 use Rattle.channel.specs.declared.ContactIndex.the-variants.{Nobody, Index}
 use Rattle.layout.specs.Places.{contactCount, contactPlace}
 use Rattle.codeplug.specs.File.{namesContact, indexOk}
-
--- the end of a loop that asked of each record whether it is good
-pub all-good : (rule : ℕ → Verdict) (n i w p : ℕ) (ok : Bool) → ok ≡ isGood (each rule i w p) → i ≤ n → n ≤ i → ok ≡ true
-    → each rule n w p ≡ Good
-all-good rule n i w p ok e g h t =
-    sym (each-end rule n i w p (each rule i w p) refl g h) ∙ good-told (each rule i w p) (sym e ∙ t)
-
--- ---- whether a channel's index names a contact
 
 -- the kind of contact i, where there is one, is that of the contact looked at
 looked : (kind : ℕ → Bool) (i : ℕ) (below : Bool) → below && kind (cond below i 0) ≡ below && kind i
@@ -35,6 +23,7 @@ names-index f m i = at (eqb i 65535)
   where
     named : Bool
     named = ltb i (contactCount f) && eqb (getD f (contactPlace i + 32) 0) m
+
     at : (t : Bool) → namesContact f m (cond t Nobody (Index i)) ≡ t || named
     at true = refl
     at false = refl

@@ -431,6 +431,12 @@ pub good-turn : (rule : ℕ → Verdict) (i w p q : ℕ) (ok more : Bool) → ok
 good-turn rule i w p q ok more e f g =
     rw (e, g, f) (sym (ap isGood (each-last rule i w p) ∙ good-both (each rule i w p) (rule (p + i * w))))
 
+-- and its end
+pub good-end : (rule : ℕ → Verdict) (n i w p : ℕ) (ok : Bool) → ok ≡ isGood (each rule i w p) → i ≤ n → n ≤ i → ok ≡ true
+    → each rule n w p ≡ Good
+good-end rule n i w p ok e g h t =
+    sym (each-end rule n i w p (each rule i w p) refl g h) ∙ good-told (each rule i w p) (sym e ∙ t)
+
 -- the first bad record answers
 pub each-stop : (rule : ℕ → Verdict) (n w p i a b : ℕ) → i < n → ((j : ℕ) → j < i → rule (p + j * w) ≡ Good)
     → rule (p + i * w) ≡ Refused a b → each rule n w p ≡ Refused a b

@@ -4,6 +4,7 @@ use crate::places::banks_place;
 use crate::places::channel_count;
 use crate::places::lend;
 use crate::places::offset_place;
+use crate::whole::entries_good;
 use fields::numbers::le16;
 use fields::numbers::le32;
 use fields::rule::BANK_ENTRY;
@@ -55,7 +56,8 @@ fn entry_at(f: &[u8], p: usize, channels: usize) -> Verdict
     field(lend(f, p, 2).len(), p, 0, 2, BANK_ENTRY, index < channels)
 }
 
-fn judge_entries(f: &[u8], n: usize, start: usize) -> Verdict
+// The first bad one of n entries.
+fn find_entry(f: &[u8], n: usize, start: usize) -> Verdict
     requires { ⌜ (n < 65536) × (start < 2 ^ 50) ⌝ }
     ensures { λ r. ⌜ r ≡ each (entryAt (now (f .entry))) n 2 start ⌝ }
 {
@@ -71,6 +73,16 @@ fn judge_entries(f: &[u8], n: usize, start: usize) -> Verdict
         p += 2;
     }
     Verdict::Good
+}
+
+fn judge_entries(f: &[u8], n: usize, start: usize) -> Verdict
+    requires { ⌜ (n < 65536) × (start < 2 ^ 50) ⌝ }
+    ensures { λ r. ⌜ r ≡ each (entryAt (now (f .entry))) n 2 start ⌝ }
+{
+    if entries_good(f, n, start) {
+        return Verdict::Good;
+    }
+    find_entry(f, n, start)
 }
 
 pub fn entry_count(f: &[u8], p: usize) -> usize

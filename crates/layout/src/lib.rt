@@ -2,6 +2,7 @@
 pub mod banks; // banks.rt: the judge of the offset table and the banks
 pub mod header; // header.rt: the judge of the header
 pub mod places; // places.rt: counts, and where the parts of a file stand
+mod whole; // whole.rt: whether all entries of a bank are good
 
 pub struct Counts {
     pub contacts: u16,

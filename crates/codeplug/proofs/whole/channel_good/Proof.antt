@@ -25,7 +25,7 @@ good-requires : tie.Need-good-requires
 good-requires c κs = search needs
 
 returns : tie.Need-returns
-returns c = 
+returns c =
     let p = c .before .before .before .before .args .p in
     let e : p + 90 - p ≡ 90 = omega arith in
     c .good2 .ensures p ∙ rw (c .before .index-good .ensures, e)

@@ -1,8 +1,7 @@
 -- The invariant: ok says whether the first i channels are good, and the next one stands at p.
 use Rattle.codeplug.specs.File.{channelAt, channelsRule}
 use Rattle.fields.specs.Rule.{isGood, each}
-use Rattle.fields.proofs.Laws.{good-turn}
-use Rattle.codeplug.proofs.WholeLaws.{all-good}
+use Rattle.fields.proofs.Laws.{good-turn, good-end}
 use Prim.Native.Nat.{ℕ, _+_, _*_, _-_, _≤_}
 use mathlib.Core.Path.{_≡_, refl}
 use native.Mathlib.Omega.{arith}
@@ -50,18 +49,18 @@ loop-less : tie.Need-loop-less Inv-loop μ-loop
 loop-less c = omega arith
 
 loop-again : tie.Need-loop-again Inv-loop μ-loop
-loop-again c = 
+loop-again c =
     let l = c .before .before .loop in
     let turn = good-turn (channelAt _) (l .i) 90 _ (l .p) _ _ (l .inv .1 .1) (l .inv .1 .0) (c .channel-good .ensures) in
     (omega arith, (omega arith, turn))
 
 returns-2 : tie.Need-returns-2 Inv-loop μ-loop
 unfolding channelsRule
-returns-2 c = 
+returns-2 c =
     let l = c .before .loop in
     λ yes.
     rw (← (c .before .before .before .before .channel-count .ensures .0), ← (c .before .before .before .channel-place .ensures .0))
-    (all-good (channelAt _) _ (l .i) 90 _ _ (l .inv .1 .1) (omega arith) (omega arith) yes)
+    (good-end (channelAt _) _ (l .i) 90 _ _ (l .inv .1 .1) (omega arith) (omega arith) yes)
 
 pub channels-good-spec : {M : Type 1} → statement M
 channels-good-spec =

@@ -22,7 +22,7 @@ good-requires : tie.Need-good-requires
 good-requires c κs = search needs
 
 returns : tie.Need-returns
-returns c = 
+returns c =
     let p = c .before .before .before .args .p in
     let e : p + 39 - p ≡ 39 = omega arith in
     c .good2 .ensures p ∙ rw e

@@ -2,8 +2,7 @@
 use Rattle.codeplug.specs.File.{contactAt, contactsRule}
 use Rattle.layout.specs.Places.{contactPlace}
 use Rattle.fields.specs.Rule.{isGood, each}
-use Rattle.fields.proofs.Laws.{good-turn}
-use Rattle.codeplug.proofs.WholeLaws.{all-good}
+use Rattle.fields.proofs.Laws.{good-turn, good-end}
 use Prim.Native.Nat.{ℕ, _+_, _*_, _-_, _≤_}
 use mathlib.Core.Path.{_≡_, refl}
 use native.Mathlib.Omega.{arith}
@@ -45,16 +44,16 @@ loop-less : tie.Need-loop-less Inv-loop μ-loop
 loop-less c = omega arith
 
 loop-again : tie.Need-loop-again Inv-loop μ-loop
-loop-again c = 
+loop-again c =
     let l = c .before .before .loop in
     let turn = good-turn (contactAt _) (l .i) 39 88 (l .p) _ _ (l .inv .1 .1) (l .inv .1 .0) (c .contact-good .ensures) in
     (omega arith, (omega arith, turn))
 
 returns-2 : tie.Need-returns-2 Inv-loop μ-loop
 unfolding contactsRule contactPlace
-returns-2 c = 
+returns-2 c =
     let l = c .before .loop in
-    λ yes. rw (← (c .before .before .before .contact-count .ensures .0)) (all-good (contactAt _) _ (l .i) 39 88 _ (l .inv .1 .1) (omega arith) (omega arith) yes)
+    λ yes. rw (← (c .before .before .before .contact-count .ensures .0)) (good-end (contactAt _) _ (l .i) 39 88 _ (l .inv .1 .1) (omega arith) (omega arith) yes)
 
 pub contacts-good-spec : {M : Type 1} → statement M
 contacts-good-spec =

@@ -31,7 +31,7 @@ byte-at-requires : tie.Need-byte-at-requires
 byte-at-requires c κs = search needs
 
 returns : tie.Need-returns
-returns c = 
+returns c =
     let start = c .before .before .before .before .before .before .before .before in
     let count = start .pre .1 in
     let index = rw (c .before .before .before .before .index-place .ensures .0) at (c .before .before .before .le16 .ensures) in

@@ -1,77 +1,21 @@
--- The invariant: the entries from the i-th on, which stands at p, answer for all.
-use Rattle.layout.specs.Banks.{entryAt}
-use Rattle.fields.proofs.Laws.{each-next, each-bad, each-done}
-use Rattle.fields.specs.Rule.{each}
-use Prim.Native.Nat.{_+_, _*_, _-_, _≤_}
-use mathlib.Core.Path.{_≡_}
-use native.Mathlib.Nat.{sub-zero}
+-- Where the test says yes nothing is refused; else the first bad one is looked for.
+use mathlib.Core.Path.{sym}
 use borrow.Author.Needs.{needs}
-use native.Mathlib.Omega.{arith}
 use Rattle.layout.proofs.banks.judge_entries.Statement.{statement}
 use Rattle.layout.proofs.banks.judge_entries.Tie as tie
 
-abbrev Inv-loop : tie.InvT-loop
-Inv-loop f n start channels i₀ p₀ i p = (i ≤ n) × ((p ≡ start + i * 2) × (each (entryAt f) n 2 start ≡ each (entryAt f) (n - i) 2 p))
+entries-good-requires : tie.Need-entries-good-requires
+entries-good-requires c κs = search needs
 
-abbrev μ-loop : tie.MeasureT-loop
-μ-loop f n start channels i₀ p₀ i p = n - i
+returns : tie.Need-returns
+returns c = sym (c .before .entries-good .ensures (c .if1 .taken))
 
-channel-count-requires : tie.Need-channel-count-requires Inv-loop μ-loop
-channel-count-requires c κs = search needs
+find-entry-requires : tie.Need-find-entry-requires
+find-entry-requires c κs = search needs
 
-loop-holds : tie.Need-loop-holds Inv-loop μ-loop
-loop-holds c = (omega arith, (omega arith, rw sub-zero))
-
-entry-at-requires : tie.Need-entry-at-requires Inv-loop μ-loop
-entry-at-requires c κs = (omega arith, c .before .before .channel-count .ensures .0)
-
-enum-told : tie.Need-enum-told Inv-loop μ-loop
-enum-told c = search needs
-
-returns : tie.Need-returns Inv-loop μ-loop
-returns c =
-    let e = c .before .before in
-    let l = e .before .before .loop in
-    each-bad (entryAt _) _ (l .i) 2 (l .p) _ _ _ _ (omega arith) (l .inv .1 .1) (e .entry-at .ensures) (c .enum-told .given .1)
-
-enum-told-2 : tie.Need-enum-told-2 Inv-loop μ-loop
-enum-told-2 c = search needs
-
-add-i : tie.Need-add-i Inv-loop μ-loop
-add-i c = omega arith
-
-add-p : tie.Need-add-p Inv-loop μ-loop
-add-p c = omega arith
-
-loop-less : tie.Need-loop-less Inv-loop μ-loop
-loop-less c = omega arith
-
-loop-again : tie.Need-loop-again Inv-loop μ-loop
-loop-again c =
-    let e = c .before .before in
-    let l = e .before .before .loop in
-    let next = each-next (entryAt _) _ (l .i) 2 (l .p) _ _ (omega arith) (l .inv .1 .1) (e .entry-at .ensures) (c .enum-told2 .given .1) in
-    (omega arith, (omega arith, next))
-
-returns-2 : tie.Need-returns-2 Inv-loop μ-loop
-returns-2 c =
-    let l = c .before .loop in
-    each-done (entryAt _) _ (l .i) 2 (l .p) _ (omega arith) (l .inv .1 .1)
+returns-2 : tie.Need-returns-2
+returns-2 c = search needs
 
 pub judge-entries-spec : {M : Type 1} → statement M
 judge-entries-spec =
-    tie.close
-    (tie.spec
-    Inv-loop
-    μ-loop
-    channel-count-requires
-    loop-holds
-    entry-at-requires
-    enum-told
-    returns
-    enum-told-2
-    add-i
-    add-p
-    loop-less
-    loop-again
-    returns-2)
+    tie.close (tie.spec entries-good-requires returns find-entry-requires returns-2)
