@@ -1,5 +1,7 @@
 // The judge of the contacts and the channels.
+use crate::whole::channel_good;
 use crate::whole::channels_good;
+use crate::whole::contact_good;
 use crate::whole::contacts_good;
 use channel::ContactIndex;
 use channel::read::named_contact;
@@ -14,12 +16,25 @@ ghost use mathlib.Core.Path.{_≡_};
 ghost use Prim.Native.Nat.{_<_, _^_};
 ghost use Rattle.codeplug.specs.File.{contactAt, contactsRule, namesContact, indexOk, channelAt, channelsRule};
 
-// The contact at p.
-pub(crate) fn contact_at(f: &[u8], p: usize) -> Verdict
+// The contact at p, field by field.
+fn contact_fields(f: &[u8], p: usize) -> Verdict
     requires { ⌜ p < 2 ^ 62 ⌝ }
     ensures { λ r. ⌜ r ≡ contactAt (now (f .entry)) p ⌝ }
 {
     contact::judge::judge(lend(f, p, 39), p)
+}
+
+// The contact at p: its fields are looked at one by one only where it is not good.
+pub(crate) fn contact_at(f: &[u8], p: usize) -> Verdict
+    requires { ⌜ p < 2 ^ 62 ⌝ }
+    ensures { λ r. ⌜ r ≡ contactAt (now (f .entry)) p ⌝ }
+{
+    if p + 39 <= f.len() {
+        if contact_good(f, p) {
+            return Verdict::Good;
+        }
+    }
+    contact_fields(f, p)
 }
 
 // The first bad contact.
@@ -30,7 +45,7 @@ fn find_contact(f: &[u8]) -> Verdict
     let mut i = 0;
     let mut p = 88;
     while i < contacts {
-        let v = contact_at(f, p);
+        let v = contact_fields(f, p);
         if let Verdict::Refused(_, _) = v {
             return v;
         }
@@ -68,13 +83,26 @@ pub fn index_ok(f: &[u8], s: &[u8]) -> bool
     names_contact(f, byte_at(s, 0), named_contact(s))
 }
 
-// The channel at p.
-pub(crate) fn channel_at(f: &[u8], p: usize) -> Verdict
+// The channel at p, field by field.
+fn channel_fields(f: &[u8], p: usize) -> Verdict
     requires { ⌜ p < 2 ^ 62 ⌝ }
     ensures { λ r. ⌜ r ≡ channelAt (now (f .entry)) p ⌝ }
 {
     let s = lend(f, p, 90);
     channel::judge::judge(s, p, index_ok(f, s))
+}
+
+// The channel at p: its fields are looked at one by one only where it is not good.
+pub(crate) fn channel_at(f: &[u8], p: usize) -> Verdict
+    requires { ⌜ p < 2 ^ 62 ⌝ }
+    ensures { λ r. ⌜ r ≡ channelAt (now (f .entry)) p ⌝ }
+{
+    if p + 90 <= f.len() {
+        if channel_good(f, p, contact_count(f)) {
+            return Verdict::Good;
+        }
+    }
+    channel_fields(f, p)
 }
 
 // The first bad channel.
@@ -85,7 +113,7 @@ fn find_channel(f: &[u8]) -> Verdict
     let mut i = 0;
     let mut p = channel_place(f, 0);
     while i < channels {
-        let v = channel_at(f, p);
+        let v = channel_fields(f, p);
         if let Verdict::Refused(_, _) = v {
             return v;
         }

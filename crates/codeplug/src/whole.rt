@@ -18,7 +18,7 @@ ghost use Rattle.fields.specs.declared.rule.Verdict.the-variants.{Good};
 ghost use Rattle.layout.specs.Places.{contactCount};
 ghost use Rattle.codeplug.specs.File.{contactAt, contactsRule, indexOk, channelAt, channelsRule};
 
-fn contact_good(f: &[u8], p: usize) -> bool
+pub(crate) fn contact_good(f: &[u8], p: usize) -> bool
     requires { ⌜ p + 39 ≤ length (now f) ⌝ }
     ensures { λ r. ⌜ r ≡ isGood (contactAt (now (f .entry)) p) ⌝ }
 {
@@ -70,7 +70,7 @@ fn index_good(f: &[u8], s: &[u8], contacts: usize) -> bool
     (mode == FM) | ((index == 65535) | (below & (kind == mode)))
 }
 
-fn channel_good(f: &[u8], p: usize, contacts: usize) -> bool
+pub(crate) fn channel_good(f: &[u8], p: usize, contacts: usize) -> bool
     requires { ⌜ (p + 90 ≤ length (now f)) × (contacts ≡ contactCount (now f)) ⌝ }
     ensures { λ r. ⌜ r ≡ isGood (channelAt (now (f .entry)) p) ⌝ }
 {

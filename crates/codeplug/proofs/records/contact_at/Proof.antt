@@ -1,16 +1,25 @@
--- The judge of a contact, of the bytes that are lent.
+-- Where the test says yes nothing is refused; else the fields answer.
+use mathlib.Core.Path.{sym, _∙_}
+use Rattle.fields.proofs.Laws.{good-told}
 use borrow.Author.Needs.{needs}
 use Rattle.codeplug.proofs.records.contact_at.Statement.{statement}
 use Rattle.codeplug.proofs.records.contact_at.Tie as tie
 
-lend-requires : tie.Need-lend-requires
-lend-requires c κs = search needs
+add-if1 : tie.Need-add-if1
+add-if1 c = search needs
 
-judge-requires : tie.Need-judge-requires
-judge-requires c κs = search needs
+contact-good-requires : tie.Need-contact-good-requires
+contact-good-requires c κs = search needs
 
 returns : tie.Need-returns
-returns c = rw (c .judge .ensures, c .before .lend .ensures)
+returns c = sym (good-told _ (sym (c .before .contact-good .ensures) ∙ c .if2 .taken))
+
+contact-fields-requires : tie.Need-contact-fields-requires
+contact-fields-requires c κs = search needs
+
+returns-2 : tie.Need-returns-2
+returns-2 c = search needs
 
 pub contact-at-spec : {M : Type 1} → statement M
-contact-at-spec = tie.close (tie.spec lend-requires judge-requires returns)
+contact-at-spec =
+    tie.close (tie.spec add-if1 contact-good-requires returns contact-fields-requires returns-2)

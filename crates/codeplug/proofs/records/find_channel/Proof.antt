@@ -26,8 +26,8 @@ loop-holds : tie.Need-loop-holds Inv-loop μ-loop
 unfolding channelsRule
 loop-holds c = (omega arith, (omega arith, rw (sub-zero, c .channel-place .ensures .0, c .before .channel-count .ensures .0)))
 
-channel-at-requires : tie.Need-channel-at-requires Inv-loop μ-loop
-channel-at-requires c κs = omega arith
+channel-fields-requires : tie.Need-channel-fields-requires Inv-loop μ-loop
+channel-fields-requires c κs = omega arith
 
 enum-told : tie.Need-enum-told Inv-loop μ-loop
 enum-told c = search needs
@@ -36,7 +36,7 @@ returns : tie.Need-returns Inv-loop μ-loop
 returns c =
     let e = c .before .before in
     let l = e .before .before .loop in
-    each-bad (channelAt _) _ (l .i) 90 (l .p) _ _ _ _ (omega arith) (l .inv .1 .1) (e .channel-at .ensures) (c .enum-told .given .1)
+    each-bad (channelAt _) _ (l .i) 90 (l .p) _ _ _ _ (omega arith) (l .inv .1 .1) (e .channel-fields .ensures) (c .enum-told .given .1)
 
 enum-told-2 : tie.Need-enum-told-2 Inv-loop μ-loop
 enum-told-2 c = search needs
@@ -54,7 +54,7 @@ loop-again : tie.Need-loop-again Inv-loop μ-loop
 loop-again c =
     let e = c .before .before in
     let l = e .before .before .loop in
-    let next = each-next (channelAt _) _ (l .i) 90 (l .p) _ _ (omega arith) (l .inv .1 .1) (e .channel-at .ensures) (c .enum-told2 .given .1) in
+    let next = each-next (channelAt _) _ (l .i) 90 (l .p) _ _ (omega arith) (l .inv .1 .1) (e .channel-fields .ensures) (c .enum-told2 .given .1) in
     (omega arith, (omega arith, next))
 
 returns-2 : tie.Need-returns-2 Inv-loop μ-loop
@@ -71,7 +71,7 @@ find-channel-spec =
     channel-count-requires
     channel-place-requires
     loop-holds
-    channel-at-requires
+    channel-fields-requires
     enum-told
     returns
     enum-told-2

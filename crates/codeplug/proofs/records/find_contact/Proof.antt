@@ -24,8 +24,8 @@ loop-holds : tie.Need-loop-holds Inv-loop μ-loop
 unfolding contactsRule contactPlace
 loop-holds c = (omega arith, (omega arith, rw (sub-zero, c .contact-count .ensures .0)))
 
-contact-at-requires : tie.Need-contact-at-requires Inv-loop μ-loop
-contact-at-requires c κs = omega arith
+contact-fields-requires : tie.Need-contact-fields-requires Inv-loop μ-loop
+contact-fields-requires c κs = omega arith
 
 enum-told : tie.Need-enum-told Inv-loop μ-loop
 enum-told c = search needs
@@ -34,7 +34,7 @@ returns : tie.Need-returns Inv-loop μ-loop
 returns c =
     let e = c .before .before in
     let l = e .before .before .loop in
-    each-bad (contactAt _) _ (l .i) 39 (l .p) _ _ _ _ (omega arith) (l .inv .1 .1) (e .contact-at .ensures) (c .enum-told .given .1)
+    each-bad (contactAt _) _ (l .i) 39 (l .p) _ _ _ _ (omega arith) (l .inv .1 .1) (e .contact-fields .ensures) (c .enum-told .given .1)
 
 enum-told-2 : tie.Need-enum-told-2 Inv-loop μ-loop
 enum-told-2 c = search needs
@@ -52,7 +52,7 @@ loop-again : tie.Need-loop-again Inv-loop μ-loop
 loop-again c =
     let e = c .before .before in
     let l = e .before .before .loop in
-    let next = each-next (contactAt _) _ (l .i) 39 (l .p) _ _ (omega arith) (l .inv .1 .1) (e .contact-at .ensures) (c .enum-told2 .given .1) in
+    let next = each-next (contactAt _) _ (l .i) 39 (l .p) _ _ (omega arith) (l .inv .1 .1) (e .contact-fields .ensures) (c .enum-told2 .given .1) in
     (omega arith, (omega arith, next))
 
 returns-2 : tie.Need-returns-2 Inv-loop μ-loop
@@ -68,7 +68,7 @@ find-contact-spec =
     μ-loop
     contact-count-requires
     loop-holds
-    contact-at-requires
+    contact-fields-requires
     enum-told
     returns
     enum-told-2
