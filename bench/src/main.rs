@@ -22,8 +22,9 @@ fn main() {
     let number = |word: &str| word.parse().expect("a number");
     match words[..] {
         [] => table::print(),
+        ["addresses"] => table::print_addresses(),
         ["plot", path] => plot::write(path),
         ["profile", maker, what, kind, times] => profile::run(maker, what, number(kind), number(times)),
-        _ => eprintln!("usage: bench/run [plot FILE.svg | profile proved|second|lean judge|read|edit|undo KIND TIMES]"),
+        _ => eprintln!("usage: bench/run [addresses | plot FILE.svg | profile proved|second|lean judge|read|edit|undo KIND TIMES]"),
     }
 }

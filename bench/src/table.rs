@@ -106,6 +106,14 @@ fn cells([proved, second, lean]: [f64; 3], digits: usize) -> String {
     )
 }
 
+/// The table's last part alone.
+pub fn print_addresses() {
+    println!("{:30} | {:^32} |", "", "ns per call");
+    for (name, times) in addresses() {
+        println!("{name:30} | {} |", cells(times[0], 1));
+    }
+}
+
 pub fn print() {
     let rows = rows(&[Batch::whole(64 << 10), Batch::whole(1 << 20)]);
     let group = "proved second   lean    /s    /l";
@@ -129,9 +137,7 @@ pub fn print() {
     for (name, times) in learnt() {
         println!("{name:30} | {} |", cells(times[0], 3));
     }
-    println!("\n{:30} | {:^32} |", "", "ns per call");
-    for (name, times) in addresses() {
-        println!("{name:30} | {} |", cells(times[0], 1));
-    }
+    println!();
+    print_addresses();
     println!("\n/s and /l: the proved library's time over the second program's and over lean's; under 1 the proved library is faster.");
 }
