@@ -5,21 +5,24 @@ use mathlib.Core.Bool.{Bool, true, false, _&&_, _||_, cond, false≢true}
 use mathlib.Core.List.{List, [], _∷_, _++_, append-assoc, append-nil}
 use mathlib.Core.Logic.{_⊎_, inl, inr, ⊎-elim}
 use native.Mathlib.Omega.{arith}
-use native.Mathlib.Nat.{pow-suc, eq-or-lt-of-le, not-suc-le-zero, eq-zero-or-pos, pow-le-pow-right}
+use native.Mathlib.Nat.{pow-suc, eq-or-lt-of-le, le-of-suc-le-suc, not-suc-le-zero, eq-zero-or-pos, pow-le-pow-right}
 use native.Mathlib.Numerals.{add-one}
 use lib.ListN.{length, getD, take, drop, set, replicate, length-drop, take-append-drop}
 use lib.Seq.{drop-cons, take-suc-set, drop-set-lt, drop-drop, length-take-le, paste-suc}
-use lib.Dec.{T, leb, eqb, eqb→eq, leb→le}
-use borrow.Author.Tests.{le-leb, lt-leb, lt-ltb, le-ltb, eq-eqb, ne-eqb, leb-true, leb-false, eqb-true, eqb-false}
+use lib.Dec.{T, leb, ltb, eqb, eqb→eq, leb→le}
+use borrow.Author.Tests.{le-leb, lt-leb, lt-ltb, le-ltb, eq-eqb, ne-eqb, ltb-true, ltb-false, leb-true, leb-false, eqb-true, eqb-false}
 use Rattle.m17.specs.declared.Address.{Address}
 use Rattle.m17.specs.declared.Address.the-variants.{Callsign, Broadcast}
 use Rattle.m17.specs.declared.Encoded.the-variants as encoded
 use Rattle.m17.specs.declared.Decoded.the-variants as decoded
+use Rattle.m17.specs.declared.Sum.{Sum}
+use Rattle.m17.specs.declared.Sum.the-variants as sum
+use Rattle.m17.specs.Table.{Table}
 use Rattle.m17.specs.Address.{broadcast, decoding, decodedBy, decodedInto, within, digitOf, foreign, charOf, addressOf, firstForeign, endsInSpace, encoding, isCallsign, addressOk, textUpTo, textFor, addressNumber, addressFor, addressGood}
 
 -- ---- a rule of every number below n, by one computed test
 
-every : (ℕ → Bool) → ℕ → Bool
+unfoldable pub every : (ℕ → Bool) → ℕ → Bool
 every f zero = true
 every f (suc n) = cond (f n) (every f n) false
 
@@ -39,6 +42,10 @@ below f (suc n) t k h =
     (λ e. rw e (cond-left (f n) (every f n) t))
     (λ l. below f n (cond-right (f n) (every f n) t) k l)
     (eq-or-lt-of-le (omega arith))
+
+-- a table that passes at each of its n entries
+pub table-right : (f : ℕ → ℕ) (low n : ℕ) {t : List ℕ} → T (every (λ (k : ℕ). eqb (getD t k 0) (f (low + k))) n) → Table f low n t
+table-right f low n {t} r = record { entry = λ k h. eqb→eq (getD t k 0) (f (low + k)) (below (λ (k : ℕ). eqb (getD t k 0) (f (low + k))) n r k h) }
 
 split : (a b : ℕ) → (a ≤ b) ⊎ (b < a)
 split a b = go (leb a b) refl
@@ -67,38 +74,19 @@ within-above low high c a = rw (lt-leb c high a) (and-false (leb low c))
 
 -- ---- digits and characters
 
-pub digit-letter : (c : ℕ) → 65 ≤ c → c ≤ 90 → digitOf c ≡ c - 64
-unfolding digitOf
-digit-letter c a b = simp (ne-eqb c 32 (omega arith), within-in 65 90 c a b) (omega arith)
-
-pub digit-number : (c : ℕ) → 48 ≤ c → c ≤ 57 → digitOf c ≡ c - 21
-unfolding digitOf
-digit-number c a b = simp (ne-eqb c 32 (omega arith), within-below 65 90 c (omega arith), within-in 48 57 c a b) (omega arith)
-
 -- a character that none of the rules names
 digit-other : (c : ℕ) → (c ≡ 32 → ⊥) → (c ≡ 45 → ⊥) → (c ≡ 47 → ⊥) → (c ≡ 46 → ⊥) → within 65 90 c ≡ false → within 48 57 c ≡ false
     → digitOf c ≡ 40
 unfolding digitOf
 digit-other c p q r s a b = simp (ne-eqb c 32 p, a, b, ne-eqb c 45 q, ne-eqb c 47 r, ne-eqb c 46 s)
 
-pub digit-low : (c : ℕ) → c < 48 → (c ≡ 32 → ⊥) → (c ≡ 45 → ⊥) → (c ≡ 47 → ⊥) → (c ≡ 46 → ⊥) → digitOf c ≡ 40
-digit-low c h p q r s = digit-other c p q r s (within-below 65 90 c (omega arith)) (within-below 48 57 c h)
-
-pub digit-gap : (c : ℕ) → 57 < c → c < 65 → digitOf c ≡ 40
-digit-gap c a b =
-    digit-other c (omega arith) (omega arith) (omega arith) (omega arith) (within-below 65 90 c b) (within-above 48 57 c a)
+pub digit-before : (c : ℕ) → c < 32 → digitOf c ≡ 40
+digit-before c h =
+    digit-other c (omega arith) (omega arith) (omega arith) (omega arith) (within-below 65 90 c (omega arith)) (within-below 48 57 c (omega arith))
 
 pub digit-past : (c : ℕ) → 90 < c → digitOf c ≡ 40
 digit-past c h =
     digit-other c (omega arith) (omega arith) (omega arith) (omega arith) (within-above 65 90 c h) (within-above 48 57 c (omega arith))
-
-pub char-letter : (d : ℕ) → 1 ≤ d → d ≤ 26 → charOf d ≡ d + 64
-unfolding charOf
-char-letter d a b = simp (ne-eqb d 0 (omega arith), le-leb d 26 b) (omega arith)
-
-pub char-number : (d : ℕ) → 27 ≤ d → d ≤ 36 → charOf d ≡ d + 21
-unfolding charOf
-char-number d a b = simp (ne-eqb d 0 (omega arith), lt-leb d 26 a, le-leb d 36 b) (omega arith)
 
 -- the two ways round, each by a computed test
 
@@ -133,7 +121,7 @@ digit-small : (c : ℕ) → c < 91 → T (small c)
 unfolding small every digitOf within
 digit-small c h = below small 91 tt c h
 
-digit-le : (c : ℕ) → digitOf c ≤ 40
+pub digit-le : (c : ℕ) → digitOf c ≤ 40
 unfolding small
 digit-le c = ⊎-elim (λ h. leb→le (digitOf c) 40 (digit-small c (omega arith))) (λ h. omega (arith, digit-past c h)) (split c 90)
 
@@ -174,11 +162,6 @@ native-more : (c : ℕ) (s : List ℕ) → foreign c ≡ false → firstForeign 
 unfolding firstForeign
 native-more c s f e = rw (f, e) (omega arith)
 
-native-drop : (i : ℕ) (s : List ℕ) → firstForeign s ≡ length s → firstForeign (drop i s) ≡ length (drop i s)
-native-drop zero s e = e
-native-drop (suc i) [] e = e
-native-drop (suc i) (c ∷ s) e = native-drop i s (native-cons c s e .1)
-
 pub foreign-le : (s : List ℕ) → firstForeign s ≤ length s
 unfolding firstForeign
 foreign-le [] = omega arith
@@ -197,6 +180,27 @@ foreign-here s i h e = rw (drop-cons s i 0 h, e)
 pub foreign-next : (s : List ℕ) (i : ℕ) → i < length s → (digitOf (getD s i 0) ≡ 40 → ⊥) → firstForeign (drop i s) ≡ 1 + firstForeign (drop (i + 1) s)
 unfolding firstForeign foreign
 foreign-next s i h e = rw (add-one, drop-cons s i 0 h, ne-eqb (digitOf (getD s i 0)) 40 e)
+
+-- a foreign character anywhere
+pub foreign-at : (s : List ℕ) (i : ℕ) → i < length s → digitOf (getD s i 0) ≡ 40 → firstForeign s < length s
+unfolding firstForeign foreign
+foreign-at [] i h e = absurd (not-suc-le-zero h)
+foreign-at (c ∷ s) zero h e = rw e (omega arith)
+foreign-at (c ∷ s) (suc i) h e = go (eqb (digitOf c) 40) (foreign-at s i (le-of-suc-le-suc h) e)
+  where
+    go : (b : Bool) → firstForeign s < length s → cond b 0 (1 + firstForeign s) < suc (length s)
+    go true l = omega arith
+    go false l = omega arith
+
+-- a turn from the last character down
+pub native-turn : (s : List ℕ) (i : ℕ) → 0 < i → i ≤ length s → (digitOf (getD s (i - 1) 0) ≡ 40 → ⊥) → firstForeign (drop i s) ≡ length (drop i s)
+    → firstForeign (drop (i - 1) s) ≡ length (drop (i - 1) s)
+unfolding foreign
+native-turn s i p l n e =
+    let h : i - 1 < length s = omega arith in
+    let k : suc (i - 1) ≡ i = omega arith in
+    let d : drop (i - 1) s ≡ getD s (i - 1) 0 ∷ drop i s = rw k at (drop-cons s (i - 1) 0 h) in
+    rw d (native-more (getD s (i - 1) 0) (drop i s) (ne-eqb (digitOf (getD s (i - 1) 0)) 40 n) e)
 
 -- ---- a text's number
 
@@ -219,8 +223,8 @@ address-below s k l e =
     omega arith
 
 -- what the sum has before its last turn leaves room for a digit more
-pub address-room : (s : List ℕ) (i : ℕ) → length s ≤ 9 → firstForeign s ≡ length s → 0 < i → i ≤ length s → addressOf (drop i s) < 40 ^ 8
-address-room s i n e p l = address-below (drop i s) 8 (simp length-drop (omega arith)) (native-drop i s e)
+pub address-room : (s : List ℕ) (i : ℕ) → length s ≤ 9 → 0 < i → firstForeign (drop i s) ≡ length (drop i s) → addressOf (drop i s) < 40 ^ 8
+address-room s i n p e = address-below (drop i s) 8 (simp length-drop (omega arith)) e
 
 -- a turn of the sum, from the last character down
 pub address-turn : (s : List ℕ) (i : ℕ) → 0 < i → i ≤ length s → addressOf (drop (i - 1) s) ≡ addressOf (drop i s) * 40 + digitOf (getD s (i - 1) 0)
@@ -399,6 +403,25 @@ module _ (s : List ℕ) (some : 0 < length s) (few : length s ≤ 9) where
 
   pub encoding-number : length s ≤ firstForeign s → (getD s (length s - 1) 0 ≡ 32 → ⊥) → encoding s ≡ encoded.Number (addressOf s)
   encoding-number f e = encoding-solid f (ends-last s (length s - 1) (omega arith) ∙ ne-eqb (getD s (length s - 1) 0) 32 e)
+
+-- what a sum says of its text
+
+abbrev pub summed : List ℕ → Sum
+summed s = cond (ltb (firstForeign s) (length s)) sum.Foreign (sum.Number (addressOf s))
+
+pub sum-foreign : (s : List ℕ) (r : Sum) → r ≡ summed s → r ≡ sum.Foreign → firstForeign s < length s
+sum-foreign s r e f = go (ltb (firstForeign s) (length s)) refl (sym f ∙ e)
+  where
+    go : (b : Bool) → ltb (firstForeign s) (length s) ≡ b → sum.Foreign ≡ cond b sum.Foreign (sum.Number (addressOf s)) → firstForeign s < length s
+    go true t e = ltb-true (firstForeign s) (length s) t
+    go false t e = let z : _≡_ {A = ℕ} 0 1 = cc in absurd (omega arith)
+
+pub sum-number : (s : List ℕ) (r : Sum) (n : ℕ) → r ≡ summed s → r ≡ sum.Number n → (length s ≤ firstForeign s) × (n ≡ addressOf s)
+sum-number s r n e f = go (ltb (firstForeign s) (length s)) refl (sym f ∙ e)
+  where
+    go : (b : Bool) → ltb (firstForeign s) (length s) ≡ b → sum.Number n ≡ cond b sum.Foreign (sum.Number (addressOf s)) → (length s ≤ firstForeign s) × (n ≡ addressOf s)
+    go true t e = let z : _≡_ {A = ℕ} 0 1 = cc in absurd (omega arith)
+    go false t e = (ltb-false (firstForeign s) (length s) t, cc)
 
 -- ---- the answers to a number, by what holds of it
 

@@ -1,9 +1,14 @@
 // M17 addresses: callsign text to number and back (document 01, "M17 addresses").
+mod tables;
+
 ghost use mathlib.Core.Path.{_≡_};
+ghost use mathlib.Core.Bool.{cond};
 ghost use mathlib.Core.List.{_++_};
 ghost use Prim.Native.Nat.{ℕ, _+_, _-_, _<_, _≤_, _^_};
+ghost use lib.Dec.{ltb};
 ghost use lib.ListN.{length, drop, replicate};
 ghost use Rattle.m17.specs.Address.{digitOf, charOf, addressOf, firstForeign, encoding, decoding, decodedInto, addressOk, addressFor, addressNumber, addressGood, isCallsign, textFor};
+ghost use Rattle.m17.specs.Table.{Table};
 
 // What an address field of a contact means.
 pub enum Address {
@@ -39,43 +44,33 @@ const LAST_CALLSIGN: u64 = 262_143_999_999_999;
 
 const BROADCAST: u64 = 0xFFFF_FFFF_FFFF;
 
-// The digit of a character, 40 for a foreign one.
-fn digit(c: u8) -> u8
+// The digit of a character, 40 for a foreign one, by the table of digits.
+fn digit(digits: &[u8; 59], c: u8) -> u8
+    requires { ⌜ Table digitOf 32 59 (now digits) ⌝ }
     ensures { λ r. ⌜ (r ≡ digitOf c) × (r ≤ 40) ⌝ }
 {
-    match c {
-        b' ' => 0,
-        b'A'..=b'Z' => c - 64,
-        b'0'..=b'9' => c - 21,
-        b'-' => 37,
-        b'/' => 38,
-        b'.' => 39,
-        _ => 40,
+    if c < b' ' || b'Z' < c {
+        return 40;
     }
+    digits[(c - b' ') as usize]
 }
 
-// The character of a digit below 40.
-fn character(d: u8) -> u8
-    requires { ⌜ d < 40 ⌝ }
+// The character of a digit below 40, by the table of characters.
+fn character(characters: &[u8; 40], d: u8) -> u8
+    requires { ⌜ (d < 40) × Table charOf 0 40 (now characters) ⌝ }
     ensures { λ r. ⌜ r ≡ charOf d ⌝ }
 {
-    match d {
-        0 => b' ',
-        1..=26 => d + 64,
-        27..=36 => d + 21,
-        37 => b'-',
-        38 => b'/',
-        _ => b'.',
-    }
+    characters[d as usize]
 }
 
 // The position of the first foreign character, or the length where there is none.
 fn first_foreign(s: &[u8]) -> usize
     ensures { λ r. ⌜ r ≡ firstForeign (now (s .entry)) ⌝ }
 {
+    let digits = tables::digits();
     let mut i = 0;
     while i < s.len() {
-        if digit(s[i]) == 40 {
+        if digit(&digits, s[i]) == 40 {
             return i;
         }
         i += 1;
@@ -83,18 +78,29 @@ fn first_foreign(s: &[u8]) -> usize
     i
 }
 
+// What a text comes to: its number, unless a character is foreign.
+enum Sum {
+    Number(u64),
+    Foreign,
+}
+
 // The sum of digit × 40^position, from the last character down.
-fn number(s: &[u8]) -> u64
-    requires { ⌜ (length (now s) ≤ 9) × (firstForeign (now s) ≡ length (now s)) ⌝ }
-    ensures { λ r. ⌜ r ≡ addressOf (now (s .entry)) ⌝ }
+fn number(s: &[u8]) -> Sum
+    requires { ⌜ length (now s) ≤ 9 ⌝ }
+    ensures { λ r. ⌜ r ≡ cond (ltb (firstForeign (now (s .entry))) (length (now (s .entry)))) Sum.Foreign (Sum.Number (addressOf (now (s .entry)))) ⌝ }
 {
+    let digits = tables::digits();
     let mut sum = 0u64;
     let mut i = s.len();
     while 0 < i {
         i -= 1;
-        sum = sum * 40 + digit(s[i]) as u64;
+        let d = digit(&digits, s[i]);
+        if d == 40 {
+            return Sum::Foreign;
+        }
+        sum = sum * 40 + d as u64;
     }
-    sum
+    Sum::Number(sum)
 }
 
 // A callsign's number.
@@ -105,14 +111,16 @@ pub fn encode(s: &[u8]) -> Encoded
     if n == 0 || 9 < n {
         return Encoded::Refused(TEXT_LENGTH, 0);
     }
-    let at = first_foreign(s);
-    if at < n {
-        return Encoded::Refused(FOREIGN, at);
+    match number(s) {
+        Sum::Foreign => Encoded::Refused(FOREIGN, first_foreign(s)),
+        Sum::Number(sum) => {
+            if s[n - 1] == b' ' {
+                Encoded::Refused(ENDS_IN_SPACE, 0)
+            } else {
+                Encoded::Number(sum)
+            }
+        }
     }
-    if s[n - 1] == b' ' {
-        return Encoded::Refused(ENDS_IN_SPACE, 0);
-    }
-    Encoded::Number(number(s))
 }
 
 pub fn is_callsign(n: u64) -> bool
@@ -131,11 +139,12 @@ fn text_of(n: u64) -> Text
     requires { ⌜ n < 40 ^ 9 ⌝ }
     ensures { λ r. ⌜ (r .bytes ≡ textFor n ++ replicate (9 - length (textFor n)) 0) × (r .len ≡ length (textFor n)) ⌝ }
 {
+    let characters = tables::characters();
     let mut bytes = [0u8; 9];
     let mut len = 0;
     let mut rest = n;
     while 0 < rest && len < 9 {
-        bytes[len] = character((rest % 40) as u8);
+        bytes[len] = character(&characters, (rest % 40) as u8);
         rest = rest / 40;
         len += 1;
     }

@@ -1,61 +1,31 @@
--- Each arm of the match answers as the definition's rule for it; where no arm is taken the character is foreign.
-use mathlib.Core.Path.{sym}
-use Rattle.m17.specs.Address.{digitOf, within}
-use Rattle.m17.proofs.Laws.{digit-letter, digit-number, digit-low, digit-gap, digit-past}
+-- The table's rule, at the character; the bytes before a space and past Z are foreign.
+use Prim.Native.Nat.{_+_, _-_}
+use mathlib.Core.Path.{_≡_, sym}
+use mathlib.Core.Logic.{⊎-elim}
+use borrow.Author.Tests.{ltb-true, ltb-false}
+use Rattle.m17.proofs.Laws.{digit-before, digit-past, digit-le}
 use native.Mathlib.Omega.{arith}
 use borrow.Author.Needs.{needs}
 use Rattle.m17.proofs.digit.Statement.{statement}
 use Rattle.m17.proofs.digit.Tie as tie
 
-sub-result : tie.Need-sub-result
-sub-result c = search needs
-
-sub-result-2 : tie.Need-sub-result-2
-sub-result-2 c = search needs
-
 returns : tie.Need-returns
-unfolding digitOf within
-returns c = (simp (c .match .keys1), search needs)
+returns c =
+    let k = c .before .args .c in
+    (sym (⊎-elim (λ w. digit-before k (omega arith)) (λ w. digit-past k (omega (arith, ltb-true))) (c .if1 .came)), search needs)
+
+cast-result : tie.Need-cast-result
+cast-result c = search needs
+
+element-copy-out-result : tie.Need-element-copy-out-result
+element-copy-out-result c = omega (arith, ltb-false)
 
 returns-2 : tie.Need-returns-2
-unfolding digitOf within
-returns-2 c = (simp (c .match .keys2), search needs)
-
-returns-3 : tie.Need-returns-3
-unfolding digitOf within
-returns-3 c = (simp (c .match .keys3), search needs)
-
-returns-4 : tie.Need-returns-4
-unfolding digitOf within
-returns-4 c = (simp (c .match .keys4), search needs)
-
-returns-5 : tie.Need-returns-5
-returns-5 c = (sym (digit-number (c .before .before .before .args .c) (omega arith) (omega arith)), search needs)
-
-returns-6 : tie.Need-returns-6
-returns-6 c = (sym (digit-letter (c .before .before .before .before .before .args .c) (omega arith) (omega arith)), search needs)
-
-returns-7 : tie.Need-returns-7
-returns-7 c = (sym (digit-low (c .before .before .args .c) (omega arith) (omega arith) (omega arith) (omega arith) (omega arith)), search needs)
-
-returns-8 : tie.Need-returns-8
-returns-8 c = (sym (digit-gap (c .before .before .before .before .args .c) (omega arith) (omega arith)), search needs)
-
-returns-9 : tie.Need-returns-9
-returns-9 c = (sym (digit-past (c .before .before .before .before .before .args .c) (omega arith)), search needs)
+returns-2 c =
+    let e = c .before .before .before in
+    let k : 32 + (e .args .c - 32) ≡ e .args .c = omega arith in
+    let r = rw k at (e .pre .entry (e .args .c - 32) (omega (arith, ltb-false))) in
+    (r, rw r (digit-le (e .args .c)))
 
 pub digit-spec : {M : Type 1} → statement M
-digit-spec =
-    tie.close
-    (tie.spec
-    sub-result
-    sub-result-2
-    returns
-    returns-2
-    returns-3
-    returns-4
-    returns-5
-    returns-6
-    returns-7
-    returns-8
-    returns-9)
+digit-spec = tie.close (tie.spec returns cast-result element-copy-out-result returns-2)

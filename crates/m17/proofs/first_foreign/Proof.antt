@@ -1,6 +1,6 @@
 -- The invariant: the first foreign character is i past where it stands in the rest.
 use Prim.Native.Nat.{_+_, _-_, _≤_}
-use mathlib.Core.Path.{_≡_, refl, sym, _∙_}
+use mathlib.Core.Path.{_≡_, refl}
 use lib.ListN.{length, drop}
 use lib.Seq.{drop-length}
 use Rattle.m17.specs.Address.{firstForeign}
@@ -11,10 +11,13 @@ use Rattle.m17.proofs.first_foreign.Statement.{statement}
 use Rattle.m17.proofs.first_foreign.Tie as tie
 
 abbrev Inv-loop : tie.InvT-loop
-Inv-loop s i₀ i = (i ≤ length s) × (firstForeign s ≡ i + firstForeign (drop i s))
+Inv-loop s digits i₀ i = (i ≤ length s) × (firstForeign s ≡ i + firstForeign (drop i s))
 
 abbrev μ-loop : tie.MeasureT-loop
-μ-loop s i₀ i = length s - i
+μ-loop s digits i₀ i = length s - i
+
+digits-requires : tie.Need-digits-requires Inv-loop μ-loop
+digits-requires c κs = search needs
 
 loop-holds : tie.Need-loop-holds Inv-loop μ-loop
 loop-holds c = search needs
@@ -23,14 +26,14 @@ shared-slice-read-digit : tie.Need-shared-slice-read-digit Inv-loop μ-loop
 shared-slice-read-digit c = search needs
 
 digit-requires : tie.Need-digit-requires Inv-loop μ-loop
-digit-requires c κs = search needs
+digit-requires c κs = c .before .before .before .before .digits .ensures
 
 returns : tie.Need-returns Inv-loop μ-loop
 returns c =
-    let e = c .before .before .before .before in
-    let s = e .before .before .args .s .now in
+    let e = c .before .before .before .before .before in
+    let s = e .before .before .before .args .s .now in
     let h : firstForeign (drop (e .loop .i) s) ≡ 0 =
-    foreign-here s (e .loop .i) (c .before .before .before .loop-test .taken) (sym (c .before .digit .ensures .0) ∙ c .if1 .taken) in
+    foreign-here s (e .loop .i) (c .before .before .before .before .loop-test .taken) (omega arith) in
     omega arith
 
 add-i : tie.Need-add-i Inv-loop μ-loop
@@ -41,15 +44,15 @@ loop-less c = search needs
 
 loop-again : tie.Need-loop-again Inv-loop μ-loop
 loop-again c =
-    let e = c .before .before .before .before in
-    let s = e .before .before .args .s .now in
+    let e = c .before .before .before .before .before in
+    let s = e .before .before .before .args .s .now in
     let h : firstForeign (drop (e .loop .i) s) ≡ 1 + firstForeign (drop (e .loop .i + 1) s) =
-    foreign-next s (e .loop .i) (c .before .before .before .loop-test .taken) (λ f. c .if1 .left (c .before .digit .ensures .0 ∙ f)) in
+    foreign-next s (e .loop .i) (c .before .before .before .before .loop-test .taken) (omega arith) in
     omega arith
 
 returns-2 : tie.Need-returns-2 Inv-loop μ-loop
 returns-2 c =
-    let s = c .before .before .before .args .s .now in
+    let s = c .before .before .before .before .args .s .now in
     let e : c .before .loop .i ≡ length s = omega arith in
     let z : firstForeign (drop (c .before .loop .i) s) ≡ 0 = rw (e, drop-length) (unfold firstForeign in refl) in
     omega arith
@@ -60,6 +63,7 @@ first-foreign-spec =
     (tie.spec
     Inv-loop
     μ-loop
+    digits-requires
     loop-holds
     shared-slice-read-digit
     digit-requires

@@ -1,65 +1,84 @@
--- The invariant: the sum is the number of the characters from i on, which `address-room` bounds.
-use Prim.Native.Nat.{_≤_}
-use mathlib.Core.Path.{_≡_, refl, _∙_}
+-- The invariant: from i on no character is foreign, and the sum is the number of these characters, which `address-room` bounds.
+use Prim.Native.Nat.{_-_, _≤_, _<_, _^_}
+use mathlib.Core.Path.{_≡_, refl}
 use lib.ListN.{length, drop}
 use lib.Seq.{drop-length}
-use Rattle.m17.specs.Address.{addressOf}
-use Rattle.m17.proofs.Laws.{address-room, address-turn}
+use borrow.Author.Tests.{lt-ltb, le-ltb}
+use Rattle.m17.specs.Address.{addressOf, firstForeign}
+use Rattle.m17.proofs.Laws.{address-room, address-turn, foreign-at, native-turn}
 use borrow.Author.Needs.{needs}
 use native.Mathlib.Omega.{arith}
 use Rattle.m17.proofs.number.Statement.{statement}
 use Rattle.m17.proofs.number.Tie as tie
 
 abbrev Inv-loop : tie.InvT-loop
-Inv-loop s sum₀ i₀ sum i = (i ≤ length s) × (sum ≡ addressOf (drop i s))
+Inv-loop s digits sum₀ i₀ sum i = (i ≤ length s) × (sum ≡ addressOf (drop i s)) × (firstForeign (drop i s) ≡ length (drop i s))
 
 abbrev μ-loop : tie.MeasureT-loop
-μ-loop s sum₀ i₀ sum i = i
+μ-loop s digits sum₀ i₀ sum i = i
+
+digits-requires : tie.Need-digits-requires Inv-loop μ-loop
+digits-requires c κs = search needs
 
 loop-holds : tie.Need-loop-holds Inv-loop μ-loop
-loop-holds c = (search needs, rw drop-length (unfold addressOf in refl))
+loop-holds c = (search needs, rw drop-length (unfold addressOf in refl), rw drop-length (unfold firstForeign in refl))
 
 sub-i : tie.Need-sub-i Inv-loop μ-loop
 sub-i c = search needs
-
-mul-sum : tie.Need-mul-sum Inv-loop μ-loop
-mul-sum c =
-    let e = c .before .before .before in
-    omega (arith, address-room (e .args .s .now) (c .before .loop .i) (e .pre .0) (e .pre .1) (c .loop-test .taken) (c .before .loop .inv .0))
 
 shared-slice-read-digit : tie.Need-shared-slice-read-digit Inv-loop μ-loop
 shared-slice-read-digit c = search needs
 
 digit-requires : tie.Need-digit-requires Inv-loop μ-loop
-digit-requires c κs = search needs
+digit-requires c κs = c .before .before .before .before .digits .ensures
+
+returns : tie.Need-returns Inv-loop μ-loop
+returns c =
+    let l = c .before .before .before .before .before in
+    let s = l .before .before .before .args .s .now in
+    let f = foreign-at s (l .loop .i - 1) (omega arith) (omega arith) in
+    rw (lt-ltb _ _ f)
+
+mul-sum : tie.Need-mul-sum Inv-loop μ-loop
+mul-sum c =
+    let l = c .before .before .before .before .before in
+    let e = l .before .before .before in
+    let s = e .args .s .now in
+    let room : addressOf (drop (l .loop .i) s) < 40 ^ 8 = address-room s (l .loop .i) (e .pre) (c .before .before .before .before .loop-test .taken) (l .loop .inv .2) in
+    omega arith
 
 cast-sum : tie.Need-cast-sum Inv-loop μ-loop
 cast-sum c = search needs
 
 add-sum : tie.Need-add-sum Inv-loop μ-loop
 add-sum c =
-    let t = c .before .before in
-    let e = t .before .before .before in
-    omega (arith, address-room (e .args .s .now) (t .before .loop .i) (e .pre .0) (e .pre .1) (t .loop-test .taken) (t .before .loop .inv .0))
+    let l = c .before .before .before .before .before in
+    let e = l .before .before .before in
+    let s = e .args .s .now in
+    let room : addressOf (drop (l .loop .i) s) < 40 ^ 8 = address-room s (l .loop .i) (e .pre) (c .before .before .before .before .loop-test .taken) (l .loop .inv .2) in
+    omega arith
 
 loop-less : tie.Need-loop-less Inv-loop μ-loop
 loop-less c = search needs
 
 loop-again : tie.Need-loop-again Inv-loop μ-loop
 loop-again c =
-    let l = c .before .before .before in (
+    let l = c .before .before .before .before .before in
+    let s = l .before .before .before .args .s .now in
+    let some = c .before .before .before .before .loop-test .taken in (
       search needs,
-      rw (
-        address-turn (l .before .before .args .s .now) (l .loop .i) (c .before .before .loop-test .taken) (l .loop .inv .0),
-        ← l .loop .inv .1,
-        ← c .digit .ensures .0,
-      ),
+      rw (address-turn s (l .loop .i) some (l .loop .inv .0), ← l .loop .inv .1, ← c .before .digit .ensures .0),
+      native-turn s (l .loop .i) some (l .loop .inv .0) (omega arith) (l .loop .inv .2),
     )
 
-returns : tie.Need-returns Inv-loop μ-loop
-returns c =
-    let z : c .before .loop .i ≡ 0 = omega arith in
-    c .before .loop .inv .1 ∙ rw z
+returns-2 : tie.Need-returns-2 Inv-loop μ-loop
+returns-2 c =
+    let l = c .before .loop in
+    let s = c .before .before .before .before .args .s .now in
+    let z : l .i ≡ 0 = omega arith in
+    let n : firstForeign s ≡ length s = rw z at (l .inv .2) in
+    let f : length s ≤ firstForeign s = omega arith in
+    rw (le-ltb (firstForeign s) (length s) f, l .inv .1, z)
 
 pub number-spec : {M : Type 1} → statement M
 number-spec =
@@ -67,13 +86,15 @@ number-spec =
     (tie.spec
     Inv-loop
     μ-loop
+    digits-requires
     loop-holds
     sub-i
-    mul-sum
     shared-slice-read-digit
     digit-requires
+    returns
+    mul-sum
     cast-sum
     add-sum
     loop-less
     loop-again
-    returns)
+    returns-2)
