@@ -10,7 +10,8 @@ use lib.Dec.{leb}
 use borrow.Author.Tests.{leb-true, leb-false}
 use Rattle.fields.specs.Bytes.{part, over, zeros, littleBytes}
 use Rattle.fields.proofs.Laws.{AllBytes, bytes-take, length-over, length-zeros, zeros-append, length-littleBytes, over-zero, drop-zeros}
-use Rattle.moves.specs.Splice.{spliced, cut}
+use Rattle.moves.specs.Cut.{cut}
+use Rattle.moves.specs.Splice.{spliced}
 use Rattle.moves.proofs.Laws.{spliced-whole, spliced-of, spliced-content}
 use Rattle.journal.specs.Machine.{holding}
 use Rattle.journal.proofs.StepLaws.{take-holding, length-holding}

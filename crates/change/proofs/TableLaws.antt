@@ -7,7 +7,7 @@ use lib.ListN.{length, getD, take, drop, length-append, length-drop, take-append
 use lib.Seq.{length-take-le}
 use Rattle.fields.specs.Bytes.{part, num, zeros, littleBytes}
 use Rattle.fields.proofs.Laws.{length-part, length-littleBytes, over-none}
-use Rattle.moves.specs.Splice.{cut}
+use Rattle.moves.specs.Cut.{cut}
 use Rattle.moves.proofs.SeamLaws.{over-seam, cut-over, cut-cut-over}
 use Rattle.renumber.specs.Shift.{growthOf}
 use Rattle.renumber.specs.Moved.{offsetsMoved}

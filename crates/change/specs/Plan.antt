@@ -3,7 +3,7 @@
 use Prim.Native.Nat.{ℕ}
 use mathlib.Core.List.{List, [], _++_}
 use Rattle.fields.specs.Bytes.{over, zeros, littleBytes}
-use Rattle.moves.specs.Splice.{cut}
+use Rattle.moves.specs.Cut.{cut}
 use Rattle.renumber.specs.Shift.{shiftOf, growthOf}
 use Rattle.renumber.specs.Moved.{contactsFollow, entriesFollow, offsetsMoved}
 use Rattle.change.specs.declared.Counted.{Counted}

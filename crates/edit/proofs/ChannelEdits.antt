@@ -97,7 +97,7 @@ module _ (c : Plug) (a : Accepted c) where
         let h = a .shaped in
         record {
           preamble = h .preamble;
-          titleBytes = h .titleBytes;
+          preambleBytes = h .preambleBytes;
           contactsFit = h .contactsFit;
           contacts = h .contacts;
           contactsBytes = h .contactsBytes;

@@ -81,7 +81,7 @@ module _ (c : Plug) (a : Accepted c) where
         let h = a .shaped in
         record {
           preamble = h .preamble;
-          titleBytes = h .titleBytes;
+          preambleBytes = h .preambleBytes;
           contactsFit = fits;
           contacts = wide;
           contactsBytes = bytes;

@@ -17,7 +17,7 @@ use Rattle.plug.specs.Edits.{recordLength, edited, placeOk, countOk, inUse, ent
 use Rattle.plug.proofs.Shape.{BankShaped, Shaped}
 use Rattle.plug.proofs.Blocks.{every-getD}
 use Rattle.edit.proofs.Accepted.{Accepted}
-use Rattle.edit.proofs.TitleEdit.{shaped-title}
+use Rattle.edit.proofs.HeaderEdit.{shaped-preamble}
 use Rattle.edit.proofs.BankEdits.{noBank, shaped-remove-bank}
 use Rattle.edit.proofs.BankKinds.{entries-in, shaped-insert, shaped-rename, shaped-insert-entry, shaped-remove-entry}
 use Rattle.edit.proofs.ChannelEdits.{shaped-insert-channel, shaped-remove-channel, shaped-replace-channel}
@@ -66,4 +66,4 @@ edited-shaped InsertEntry i j r c a b w p n u =
 edited-shaped RemoveEntry i j r c a b w p n u =
     shaped-remove-entry c a i (below i (length (c .banks)) _ p) j
     (ltb-true j (entriesIn i (c .banks)) (and-right (ltb i (length (c .banks))) _ p))
-edited-shaped SetHeader i j r c a b w p n u = shaped-title c a r w b
+edited-shaped SetHeader i j r c a b w p n u = shaped-preamble c a r w b

@@ -9,7 +9,7 @@ use lib.Seq.{take-at, drop-at, split-at, length-take-le}
 use Rattle.fields.specs.Bytes.{over, littleBytes}
 use Rattle.fields.specs.declared.rule.Verdict.the-variants.{Good}
 use Rattle.fields.proofs.Laws.{AllBytes, length-littleBytes}
-use Rattle.moves.specs.Splice.{cut}
+use Rattle.moves.specs.Cut.{cut}
 use Rattle.moves.proofs.SeamLaws.{over-seam, cut-seam}
 use Rattle.codeplug.specs.File.{fileRule}
 use Rattle.layout.specs.Places.{contactCount, channelCount, bankCount, contactPlace, channelPlace, banksPlace}
@@ -226,21 +226,21 @@ module _ (c : Plug) (preamble : length (c .preamble) ≡ 82) (contacts : Wide 39
 
 -- ---- the title
 
-file-title : (c : Plug) (t : List ℕ) → plugBytes (withPreamble t c) ≡ t ++ (countBytes c ++ (joined (c .contacts) ++ channelsOn c))
+file-preamble : (c : Plug) (t : List ℕ) → plugBytes (withPreamble t c) ≡ t ++ (countBytes c ++ (joined (c .contacts) ++ channelsOn c))
 unfolding plugBytes countBytes withPreamble
-file-title c t = refl
+file-preamble c t = refl
 
-set-title : (c : Plug) → length (c .preamble) ≡ 82 → (r : List ℕ) → length r ≡ 72
+set-header : (c : Plug) → length (c .preamble) ≡ 82 → (r : List ℕ) → length r ≡ 72
     → plugBytes (withPreamble (take 10 (c .preamble) ++ r) c) ≡ over (plugBytes c) 10 r
 unfolding plugBytes
-set-title c h r g =
+set-header c h r g =
     let t = c .preamble in
     let z = countBytes c ++ (joined (c .contacts) ++ channelsOn c) in
     let k : length (take 10 t) ≡ 10 = length-take-le 10 t (omega arith) in
     let s : t ≡ take 10 t ++ drop 10 t = sym (take-append-drop 10 t) in
     let d : length (drop 10 t) ≡ length r = rw length-drop (omega arith) in
     let e : plugBytes c ≡ take 10 t ++ (drop 10 t ++ z) = ap (λ (x : List ℕ). x ++ z) s ∙ append-assoc (take 10 t) (drop 10 t) z in
-    file-title c (take 10 t ++ r) ∙ append-assoc (take 10 t) r z ∙ sym (over-seam (plugBytes c) (take 10 t) (drop 10 t) z r 10 e k d)
+    file-preamble c (take 10 t ++ r) ∙ append-assoc (take 10 t) r z ∙ sym (over-seam (plugBytes c) (take 10 t) (drop 10 t) z r 10 e k d)
 
 -- ---- indexes that move in place
 
@@ -434,6 +434,6 @@ module _ (i j : ℕ) (r f : List ℕ) (bytes : AllBytes f) (good : fileRule f �
       (rw (channel-place c shape i)
       (replaced-channel c (shape .preamble) (shape .contacts) (shape .channels) i r (below i (length (c .channels)) _ place) wide))
 
-  pub set-title-in-bytes : length r ≡ recordLength SetHeader → result SetHeader i j r f ≡ over f 10 r
+  pub set-header-in-bytes : length r ≡ recordLength SetHeader → result SetHeader i j r f ≡ over f 10 r
   unfolding result edited recordLength
-  set-title-in-bytes wide = on-file _ (λ x. over x 10 r) (set-title (plugOf f) (shape .preamble) r wide)
+  set-header-in-bytes wide = on-file _ (λ x. over x 10 r) (set-header (plugOf f) (shape .preamble) r wide)

@@ -14,7 +14,7 @@ use Rattle.fields.specs.declared.rule.Verdict.the-variants.{Good}
 use Rattle.fields.proofs.Laws.{AllBytes, length-littleBytes}
 use Rattle.layout.specs.Places.{bankCount, offsetPlace, banksPlace}
 use Rattle.layout.specs.Banks.{entryCount, bankPlace}
-use Rattle.moves.specs.Splice.{cut}
+use Rattle.moves.specs.Cut.{cut}
 use Rattle.moves.proofs.SeamLaws.{over-seam, cut-over, cut-cut-over}
 use Rattle.codeplug.specs.File.{fileRule}
 use Rattle.plug.specs.Plug.{Bank, Plug, joined, pairs, bankBytes, offsetsFrom, countBytes, plugBytes, plugOf}

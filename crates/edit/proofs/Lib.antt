@@ -2,7 +2,7 @@
 pub mod Accepted
 pub mod ListEdits
 pub mod Moves
-pub mod TitleEdit
+pub mod HeaderEdit
 pub mod BankEdits
 pub mod BankKinds
 pub mod ChannelEdits

@@ -36,7 +36,7 @@ use Rattle.edit.specs.Planned.{Ready, Makes, tableFrom}
 use Rattle.edit.proofs.Accepted.{laid}
 use Rattle.edit.proofs.EditShape.{up-to, below, may-grow}
 use Rattle.edit.proofs.PlaceLaws.{contacts-count, channels-count, banks-count, entries-at}
-use Rattle.edit.proofs.InBytes.{insert-contact-in-bytes, remove-contact-in-bytes, replace-contact-in-bytes, insert-channel-in-bytes, remove-channel-in-bytes, replace-channel-in-bytes, set-title-in-bytes}
+use Rattle.edit.proofs.InBytes.{insert-contact-in-bytes, remove-contact-in-bytes, replace-contact-in-bytes, insert-channel-in-bytes, remove-channel-in-bytes, replace-channel-in-bytes, set-header-in-bytes}
 use Rattle.edit.proofs.InBytesBanks.{rename-bank-in-bytes, insert-entry-in-bytes, remove-entry-in-bytes, insert-bank-in-bytes, remove-bank-in-bytes}
 
 -- ---- numbers
@@ -261,9 +261,9 @@ module _ (f : List ℕ) (bytes : AllBytes f) (i : ℕ) where
       let a = channel-fits f (laid f (h .0) bytes) i (channel-over-there f bytes i 0 h .0) in
       (rw e (sym (replace-channel-in-bytes i 0 r f bytes (h .0) (h .1 .0) w)), omega arith)
 
-  pub title-over : Ready SetHeader i 0 f → Makes (Replace 10) SetHeader i 0 f
+  pub preamble-over : Ready SetHeader i 0 f → Makes (Replace 10) SetHeader i 0 f
   unfolding Makes planned Fits recordLength
-  title-over h r w s = (sym (set-title-in-bytes i 0 r f bytes (h .0) w), omega (arith, laid f (h .0) bytes .header))
+  preamble-over h r w s = (sym (set-header-in-bytes i 0 r f bytes (h .0) w), omega (arith, laid f (h .0) bytes .header))
 
   pub bank-over : (p : ℕ) → Ready RenameBank i 0 f → p ≡ bankPlace f i → Makes (Replace p) RenameBank i 0 f
   unfolding Makes planned Fits recordLength

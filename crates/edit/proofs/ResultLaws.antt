@@ -20,7 +20,7 @@ use Rattle.plug.proofs.Shape.{Shaped, bytes-plug, channel-count, plug-of-file}
 use Rattle.edit.specs.Result.{result}
 use Rattle.edit.specs.Foretold.{resultRule}
 use Rattle.edit.proofs.Accepted.{Accepted, laid, plug-accepted}
-use Rattle.edit.proofs.TitleEdit.{set-title-judged}
+use Rattle.edit.proofs.HeaderEdit.{set-header-judged}
 use Rattle.edit.proofs.BankEdits.{remove-bank-judged}
 use Rattle.edit.proofs.BankKinds.{insert-bank-is, rename-bank-is, insert-entry-is, remove-entry-is}
 use Rattle.edit.proofs.ChannelEdits.{insert-channel-is, remove-channel-is, replace-channel-is}
@@ -53,7 +53,7 @@ edit-judged InsertEntry i j r c a b w p n u =
 edit-judged RemoveEntry i j r c a b w p n u =
     remove-entry-is c a i (below i (length (c .banks)) _ p) j
     (ltb-true j (entriesIn i (c .banks)) (and-right (ltb i (length (c .banks))) _ p))
-edit-judged SetHeader i j r c a b w p n u = set-title-judged c a r w b
+edit-judged SetHeader i j r c a b w p n u = set-header-judged c a r w b
 
 -- ---- an edit of an accepted file
 

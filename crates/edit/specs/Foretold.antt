@@ -50,7 +50,7 @@ resultRule InsertEntry i j r f =
 resultRule RemoveEntry i j r f = Good
 resultRule SetHeader i j r f = unless (textOk (part r 0 32)) 5 10 then unless (textOk (part r 32 32)) 5 42
 
--- the length of that file (proofs/LengthLaws.antt); a bank goes with its offset
+-- the length of an edit's result (proofs/LengthLaws.antt); a bank goes with its offset
 unfoldable pub resultLength : Kind → ℕ → List ℕ → ℕ
 resultLength InsertContact i f = length f + 39
 resultLength RemoveContact i f = length f - 39

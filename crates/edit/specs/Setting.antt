@@ -1,4 +1,4 @@
--- The calls of an editor of codeplugs (document 01, "The refusals, by number"): an edit is refused by 32, 33, 34, 35, then by what reading
+-- The edits of a codeplug and their refusals (document 01, "The refusals, by number"): an edit is refused by 32, 33, 34, 35, then by what reading
 -- its result gives, then by 36. (30, the file's own refusal and 31 come before, 37 after: journal, specs/Machine.antt.)
 use Prim.Native.Nat.{ℕ}
 use mathlib.Core.Bool.{not}

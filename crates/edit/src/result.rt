@@ -142,7 +142,7 @@ fn insert_entry(f: &[u8], i: usize, j: usize, r: &[u8]) -> Verdict
     first(may_grow(f, 2), held)
 }
 
-fn set_title(r: &[u8]) -> Verdict
+fn set_header(r: &[u8]) -> Verdict
     requires { ⌜ length (now r) ≡ 72 ⌝ }
     ensures { λ v. ⌜ v ≡ unless (textOk (part (now (r .entry)) 0 32)) 5 10 then unless (textOk (part (now (r .entry)) 32 32)) 5 42 ⌝ }
 {
@@ -168,7 +168,7 @@ pub fn result_verdict(f: &[u8], k: Kind, i: usize, j: usize, r: &[u8]) -> Verdic
         Kind::RenameBank => rename_bank(f, i, r),
         Kind::InsertEntry => insert_entry(f, i, j, r),
         Kind::RemoveEntry => Verdict::Good,
-        Kind::SetHeader => set_title(r),
+        Kind::SetHeader => set_header(r),
     }
 }
 

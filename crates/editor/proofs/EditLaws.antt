@@ -17,9 +17,10 @@ use Rattle.fields.proofs.Laws.{AllBytes, then-good, good-then, then-refused, un
 use Rattle.codeplug.specs.File.{fileRule}
 use Rattle.codeplug.proofs.Laws.{file-good}
 use Rattle.journal.specs.Entry.{Entries, whole, broken, entriesOf, entrySize, historyBytes}
+use Rattle.journal.specs.History.{fittingRun, recorded}
 use Rattle.journal.specs.Scan.{numberOfEntries}
 use Rattle.journal.specs.Change.{entryOf}
-use Rattle.journal.specs.Machine.{State, holding, isWhole, fileOf, historyOf, buffersRule, refused, done, newEntry, editRule, editOutcome, editStep}
+use Rattle.journal.specs.Machine.{State, holding, fileOf, entryList, historyOf, buffersRule, refused, done, newEntry, editRule, editOutcome, editStep}
 use Rattle.journal.specs.Span.{spanOf, entryFrom, Sound, spanSize, recordedIn}
 use Rattle.journal.specs.declared.answer.Answer.the-variants as answer
 use Rattle.journal.specs.declared.recording.Span.{Span}
@@ -40,25 +41,13 @@ use Rattle.edit.specs.Planned.{Makes}
 use Rattle.edit.specs.Setting.{Asked, refusesKnown, refusesKind, refuses, appliedKind, applied, editing}
 use Rattle.editor.specs.Calls.{lent, left}
 use Rattle.editor.specs.Edit.{committed, knownRule, knownOutcome, knownStep}
-use Rattle.editor.proofs.StandLaws.{stand-inside}
+use Rattle.editor.proofs.StandLaws.{stand-inside, stand-entries}
 
 -- ---- buffers that stand
 
 pub stand-file : (m : State) → buffersRule editing m ≡ Good → fileRule (fileOf m) ≡ Good
 unfolding buffersRule
 stand-file m e = then-good _ _ (then-good _ _ e .1) .0
-
-whole-held : (t : Entries) → isWhole t ≡ Good → numberOfEntries t ≡ read.Broken → ⊥
-unfolding numberOfEntries isWhole
-whole-held (whole es) e b = let z : _≡_ {A = ℕ} 0 1 = cc in absurd (omega arith)
-whole-held broken e b = let z : _≡_ {A = ℕ} 0 1 = cc in absurd (omega arith)
-
-stand-whole : (m : State) → buffersRule editing m ≡ Good → isWhole (historyOf m) ≡ Good
-unfolding buffersRule
-stand-whole m e = then-good _ _ (then-good _ _ e .1) .1
-
-pub stand-entries : (m : State) → buffersRule editing m ≡ Good → numberOfEntries (historyOf m) ≡ read.Broken → ⊥
-stand-entries m e = whole-held (historyOf m) (stand-whole m e)
 
 -- ---- the call's step, by its kind
 
@@ -92,20 +81,19 @@ unfolding applied appliedKind
 applied-known a k f e = rw e
 
 -- both ways to tell the outcome agree
-outcome-known : (a : Asked) (m : State) (k : Kind) (v : Verdict) (t : Entries) → kindOf (a .kind) ≡ Known k → isWhole t ≡ Good → historyOf m ≡ t
-    → editOutcome editing a m v t ≡ knownOutcome v k (a .first) (a .second) (a .bytes) m
-unfolding editOutcome knownOutcome committed newEntry recordedIn isWhole
-outcome-known a m k (Refused n p) (whole es) f g e = refl
-outcome-known a m k (Refused n p) broken f g e = refl
-outcome-known a m k Good (whole es) f g e = rw (applied-known a k (fileOf m) f, e)
-outcome-known a m k Good broken f g e = let z : _≡_ {A = ℕ} 0 1 = cc in absurd (omega arith)
+outcome-known : (a : Asked) (m : State) (k : Kind) (v : Verdict) (t : Entries) → kindOf (a .kind) ≡ Known k → historyOf m ≡ t
+    → editOutcome editing a m v (entryList t) ≡ knownOutcome v k (a .first) (a .second) (a .bytes) m
+unfolding editOutcome knownOutcome committed newEntry recordedIn recorded fittingRun entryList
+outcome-known a m k (Refused n p) t f e = refl
+outcome-known a m k Good (whole es) f e = rw (applied-known a k (fileOf m) f, e)
+outcome-known a m k Good broken f e = rw (applied-known a k (fileOf m) f, e)
 
 pub edit-known : (a : Asked) (m : State) (k : Kind) (r : KindRead) → buffersRule editing m ≡ Good → r ≡ kindOf (a .kind) → r ≡ Known k
     → knownStep k (a .first) (a .second) (a .bytes) m ≡ editStep editing a m
 unfolding editStep knownStep
 edit-known a m k r e f g =
     let h : kindOf (a .kind) ≡ Known k = sym f ∙ g in
-    sym (rw (rule-known a m k e h) (outcome-known a m k (knownRule k (a .first) (a .second) (a .bytes) m) (historyOf m) h (stand-whole m e) refl))
+    sym (rw (rule-known a m k e h) (outcome-known a m k (knownRule k (a .first) (a .second) (a .bytes) m) (historyOf m) h refl))
 
 -- ---- a change recorded, then made
 

@@ -12,7 +12,8 @@ use Rattle.fields.specs.declared.rule.Verdict.{Verdict}
 use Rattle.fields.specs.declared.rule.Verdict.the-variants.{Good, Refused}
 use Rattle.fields.proofs.Laws.{length-part, length-over, length-zeros, part-over, drop-over}
 use Rattle.codeplug.specs.File.{fileRule}
-use Rattle.moves.specs.Splice.{spliced, cut}
+use Rattle.moves.specs.Cut.{cut}
+use Rattle.moves.specs.Splice.{spliced}
 use Rattle.moves.specs.Turn.{turned}
 use Rattle.moves.proofs.Laws.{spliced-whole, spliced-of, take-over-before}
 use Rattle.moves.proofs.TurnLaws.{cut-three, cut-four, over-mid, turned-mid, length-turned}

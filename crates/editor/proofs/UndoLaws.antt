@@ -15,12 +15,13 @@ use Rattle.fields.specs.declared.rule.Verdict.{Verdict}
 use Rattle.fields.specs.declared.rule.Verdict.the-variants.{Good, Refused}
 use Rattle.fields.proofs.Laws.{AllBytes, bytes-take, bytes-drop, length-part, length-zeros, part-part, over-over, over-zero}
 use Rattle.codeplug.specs.File.{fileRule}
-use Rattle.moves.specs.Splice.{spliced, cut}
+use Rattle.moves.specs.Cut.{cut}
+use Rattle.moves.specs.Splice.{spliced}
 use Rattle.moves.proofs.Laws.{spliced-whole, spliced-of, spliced-content}
 use Rattle.journal.specs.Entry.{Entry, Entries, whole, broken, entriesOf, frontOf, front, none, before, historyBytes}
 use Rattle.journal.specs.Scan.{numberOfEntries}
 use Rattle.journal.specs.Change.{revert}
-use Rattle.journal.specs.Machine.{holding, fileOf, historyOf, entryFits, buffersRule, refused, done, topRule, undoRule, undoOutcome, undoStep}
+use Rattle.journal.specs.Machine.{holding, fileOf, entryList, historyOf, entryFits, buffersRule, refused, done, topRule, undoRule, undoOutcome, undoStep}
 use Rattle.journal.specs.declared.answer.Answer.the-variants as answer
 use Rattle.journal.specs.declared.scan.EntryHead.{EntryHead}
 use Rattle.journal.specs.declared.scan.HistoryRead.{HistoryRead}
@@ -30,7 +31,7 @@ use Rattle.journal.proofs.ScanLaws.{HeadRead, Held, counted-held}
 use Rattle.edit.specs.Setting.{editing}
 use Rattle.editor.specs.Calls.{lent, left}
 use Rattle.editor.specs.Undo.{Tried, headed, undone}
-use Rattle.editor.proofs.StandLaws.{broken-by, and-both, stand-inside}
+use Rattle.editor.proofs.StandLaws.{and-both, stand-inside, stand-entries}
 
 -- ---- the front of a content dropped
 
@@ -220,16 +221,16 @@ undo-refused d len h used n p e f = rw (sym e ∙ f)
 module _ (d : List ℕ) (len : ℕ) (h : List ℕ) (used : ℕ) (fine : buffersRule editing (lent d len h used) ≡ Good) where
   pub undo-broken : {r : HistoryRead} → r ≡ numberOfEntries (entriesOf (take used h)) → r ≡ read.Broken
       → left (answer.Refused 31 0) d h ≡ undoStep editing (lent d len h used)
-  unfolding undoStep undoRule topRule undoOutcome historyOf refused _then_
-  undo-broken e f = rw (fine, broken-by (entriesOf (take used h)) (sym e ∙ f))
+  unfolding historyOf
+  undo-broken e f = absurd (stand-entries (lent d len h used) fine (sym e ∙ f))
 
   pub undo-none : (n : ℕ) → Held (take used h) n → frontOf (take used h) ≡ none
       → left (answer.Refused 38 0) d h ≡ undoStep editing (lent d len h used)
-  unfolding undoStep undoRule topRule undoOutcome historyOf refused _then_
+  unfolding undoStep undoRule topRule undoOutcome historyOf entryList refused _then_
   undo-none n e f = rw (fine, e .held-is, none-held (take used h) (e .held) (e .held-is) f)
 
   told-by : (e : Entry) (rest : List Entry) (fits : Bool)
-      → undoOutcome editing (lent d len h used) (unless fits 39 0) (whole (e ∷ rest))
+      → undoOutcome editing (lent d len h used) (unless fits 39 0) (e ∷ rest)
       ≡ cond fits (done (revert e (take len d)) rest (lent d len h used)) (refused 39 0 (lent d len h used))
   unfolding undoOutcome unless fileOf
   told-by e rest true = refl
@@ -238,7 +239,7 @@ module _ (d : List ℕ) (len : ℕ) (h : List ℕ) (used : ℕ) (fine : buffersR
   undo-first : (e : Entry) (rest : List Entry) → entriesOf (take used h) ≡ whole (e ∷ rest)
       → undoStep editing (lent d len h used)
       ≡ cond (entryFits editing e (lent d len h used)) (done (revert e (take len d)) rest (lent d len h used)) (refused 39 0 (lent d len h used))
-  unfolding undoStep undoRule topRule historyOf _then_
+  unfolding undoStep undoRule topRule historyOf entryList _then_
   undo-first e rest f = rw (fine, f) (told-by e rest (entryFits editing e (lent d len h used)))
 
   -- the two ways to tell it agree, entry by entry

@@ -5,7 +5,7 @@ use lib.ListN.{length}
 use Rattle.fields.specs.Rule.{_then_}
 use Rattle.fields.specs.declared.rule.Verdict.{Verdict}
 use Rattle.fields.specs.declared.rule.Verdict.the-variants.{Good, Refused}
-use Rattle.journal.specs.Entry.{fitsAlone}
+use Rattle.journal.specs.Entry.{aloneRule}
 use Rattle.journal.specs.Change.{entryOf}
 use Rattle.journal.specs.Span.{recordedIn}
 use Rattle.journal.specs.Machine.{State, Outcome, fileOf, historyOf, refused, done}
@@ -21,7 +21,7 @@ committed s m = done s (recordedIn (length (m .history)) (entryOf (fileOf m) s) 
 unfoldable pub knownRule : Kind → ℕ → ℕ → List ℕ → State → Verdict
 knownRule k i j r m =
     refusesKnown k i j r (length (m .room)) (fileOf m)
-    then fitsAlone (entryOf (fileOf m) (result k i j r (fileOf m))) (length (m .history))
+    then aloneRule (entryOf (fileOf m) (result k i j r (fileOf m))) (length (m .history))
 
 unfoldable pub knownOutcome : Verdict → Kind → ℕ → ℕ → List ℕ → State → Outcome
 knownOutcome Good k i j r m = committed (result k i j r (fileOf m)) m

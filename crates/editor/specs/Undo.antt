@@ -7,7 +7,8 @@ use lib.ListN.{take, drop}
 use Rattle.fields.specs.Bytes.{part}
 use Rattle.fields.specs.Rule.{isGood}
 use Rattle.codeplug.specs.File.{fileRule}
-use Rattle.moves.specs.Splice.{spliced, cut}
+use Rattle.moves.specs.Cut.{cut}
+use Rattle.moves.specs.Splice.{spliced}
 use Rattle.journal.specs.Entry.{Entry}
 use Rattle.journal.specs.Change.{revert}
 use Rattle.journal.specs.Machine.{Outcome, holding, refused, entryFits}

@@ -6,7 +6,7 @@ use journal::scan::HistoryRead;
 use journal::scan::entries_in;
 ghost use mathlib.Core.Path.{_≡_};
 ghost use Rattle.journal.specs.Entry.{entriesOf};
-ghost use Rattle.journal.specs.Machine.{isWhole, buffersRule};
+ghost use Rattle.journal.specs.Machine.{wholeRule, buffersRule};
 ghost use Rattle.edit.specs.Setting.{editing};
 ghost use Rattle.editor.specs.Calls.{lent};
 
@@ -16,7 +16,7 @@ pub const BAD_LENGTH: u8 = 30;
 pub const BAD_HISTORY: u8 = 31;
 
 fn whole_entries(h: &[u8]) -> Verdict
-    ensures { λ r. ⌜ r ≡ isWhole (entriesOf (now (h .entry))) ⌝ }
+    ensures { λ r. ⌜ r ≡ wholeRule (entriesOf (now (h .entry))) ⌝ }
 {
     match entries_in(h) {
         HistoryRead::Entries(_) => Verdict::Good,

@@ -15,7 +15,7 @@ use Rattle.moves.specs.Common.{commonStart, commonEnd}
 use Rattle.journal.specs.Number.{numberBytes, groups, numberAt, groupsAt, atMost, withGroup}
 use Rattle.journal.specs.Entry.{entryBytes, entriesOf, entriesUpTo, frontOf, withPlace, withPut, withOld, before, restOf}
 use Rattle.journal.specs.Change.{entryOf, tailOf}
-use Rattle.journal.specs.Machine.{isWhole}
+use Rattle.journal.specs.Machine.{wholeRule}
 use Rattle.plug.specs.Plug.{plugOf, plugBytes, joined, bankBytes, pairs, offsetsFrom, countBytes, blocks, banksAt}
 use Rattle.plug.specs.Edits.{kindOf, edited, insertAt, withBanks, withPreamble}
 use Rattle.edit.specs.Result.{result}
@@ -67,10 +67,10 @@ Rows =
     × (fmRule (withTone 0x32) 0 ≡ verdict.Refused 7 85)
     × (numberBytes 127 ≡ 0x7F ∷ [])
     × (numberBytes 128 ≡ 0x80 ∷ 0x01 ∷ [])
-    × (isWhole (entriesOf (0x80 ∷ 0x00 ∷ [])) ≡ verdict.Refused 31 0)
+    × (wholeRule (entriesOf (0x80 ∷ 0x00 ∷ [])) ≡ verdict.Refused 31 0)
     × (entryBytes (entryOf (empty 0) (applied dated (empty 0))) ≡ 0x4A ∷ 0x01 ∷ 0x01 ∷ 0x00 ∷ [])
     × (entryBytes (entryOf (empty 0) (applied banked (empty 0))) ≡ 0x56 ∷ 0x26 ∷ 0x00 ∷ [])
 
 pub paper-rows : Rows
-unfolding encoding decoding addressOf digitOf firstForeign foreign endsInSpace within isCallsign textFor textUpTo charOf toneOf toneOk toneIndex frequencyOf toneTable zeros unless fieldOf _then_ fmRule numberBytes groups entriesOf entriesUpTo frontOf withPlace withPut withOld numberAt groupsAt atMost withGroup before restOf isWhole entryBytes entryOf tailOf commonStart commonEnd applied appliedKind kindOf result plugOf plugBytes edited insertAt withBanks withPreamble joined bankBytes pairs offsetsFrom countBytes blocks banksAt contactCount channelCount bankCount contactPlace channelPlace offsetPlace banksPlace little littleBytes
+unfolding encoding decoding addressOf digitOf firstForeign foreign endsInSpace within isCallsign textFor textUpTo charOf toneOf toneOk toneIndex frequencyOf toneTable zeros unless fieldOf _then_ fmRule numberBytes groups entriesOf entriesUpTo frontOf withPlace withPut withOld numberAt groupsAt atMost withGroup before restOf wholeRule entryBytes entryOf tailOf commonStart commonEnd applied appliedKind kindOf result plugOf plugBytes edited insertAt withBanks withPreamble joined bankBytes pairs offsetsFrom countBytes blocks banksAt contactCount channelCount bankCount contactPlace channelPlace offsetPlace banksPlace little littleBytes
 paper-rows = (refl, refl, refl, refl, refl, refl, refl, (refl, refl), (refl, refl), refl, refl, refl, refl, refl, refl, refl)

@@ -1,4 +1,4 @@
--- How the text judge goes about it, byte after byte; no promise to a caller rests on these.
+-- How the text judge goes about it, byte after byte. No promise to a caller rests on these.
 use Prim.Native.Nat.{ℕ}
 use mathlib.Core.Bool.{Bool, true, false, _&&_, _||_, not, cond}
 use mathlib.Core.List.{List}

@@ -6,7 +6,7 @@ use native.Mathlib.Omega.{arith}
 use lib.ListN.{length, drop, length-drop}
 use lib.Seq.{drop-drop}
 use Rattle.fields.proofs.Laws.{AllBytes, bytes-part, length-part}
-use Rattle.moves.specs.Splice.{cut}
+use Rattle.moves.specs.Cut.{cut}
 use Rattle.moves.specs.Common.{commonStart}
 use Rattle.moves.proofs.Laws.{commonStart-left, commonStart-right, commonStart-self, take-commonStart}
 use Rattle.moves.proofs.Laws.{commonEnd-left, commonEnd-right, drop-commonEnd, between}

@@ -17,9 +17,9 @@ use Rattle.journal.specs.Entry.{Entry, whole, entrySize, historyBytes}
 use Rattle.journal.specs.History.{fittingRun, recorded}
 use Rattle.journal.specs.Change.{entryOf}
 use Rattle.journal.specs.Setting.{Setting}
-use Rattle.journal.specs.Machine.{State, Outcome, holding, fileOf, historyOf, isWhole, buffersRule, refused, done, newEntry, editRule}
+use Rattle.journal.specs.Machine.{State, Outcome, holding, fileOf, historyOf, wholeRule, buffersRule, refused, done, newEntry, editRule}
 use Rattle.journal.specs.Setting.{Call, edit, undo}
-use Rattle.journal.specs.Machine.{editOutcome, editStep, entryFits, topRule, undoRule, undoOutcome, undoStep, step, after, next}
+use Rattle.journal.specs.Machine.{editOutcome, editStep, entryFits, topRule, undoRule, undoOutcome, undoStep, entryList, step, after, next}
 use Rattle.journal.specs.Book.{Standing, Book, bookFile, fileAfter, keptEntries, trimmed, withStanding, bookEditRule, withEdit}
 use Rattle.journal.specs.Book.{afterEdit, anyKept, withoutLast, bookUndoRule, afterUndo, bookLengths, answerBy, bookNext, bookAnswer}
 use Rattle.journal.specs.declared.answer.Answer.the-variants.{Done, Refused}
@@ -161,7 +161,7 @@ module _ (S : Setting) (short : Short S) (m : State) (b : Book S) (h : Follows S
       rw (h .entries-are) (entries-return (reverse k) (good-reverse k g))
 
   pub stands-good : buffersRule S m ≡ verdict.Good
-  unfolding buffersRule isWhole unless _then_
+  unfolding buffersRule wholeRule unless _then_
   stands-good =
       let fine = file-fine S m b h in
       let in-room : m .length-in-room ≤ length (m .room) = omega arith in
@@ -188,7 +188,7 @@ module _ (S : Setting) (short : Short S) (m : State) (b : Book S) (h : Follows S
       → step S (edit e) m
       ≡ done (S .applied e (bookFile S b))
       (recorded (b .historySize) (entryOf (bookFile S b) (S .applied e (bookFile S b))) (newestFirst S b)) m
-  unfolding step editStep editOutcome newEntry
+  unfolding step editStep editOutcome newEntry entryList
   edit-done e f = rw (edit-rule e, f, entries-in, h .file-is, h .history-size-is)
 
   -- the edit stands last, and what is kept is the longest run that fits
@@ -261,7 +261,7 @@ module _ (S : Setting) (short : Short S) (m : State) (b : Book S) (h : Follows S
   -- ---- an undo
 
   undo-refused : anyKept S (b .standing) ≡ false → step S undo m ≡ refused 38 0 m
-  unfolding step undoStep undoRule topRule undoOutcome _then_
+  unfolding step undoStep undoRule topRule undoOutcome entryList _then_
   undo-refused f =
       rw (stands-good, entries-in, entries-none S (b .opening) (b .standing) f)
 
@@ -309,7 +309,7 @@ module _ (S : Setting) (short : Short S) (m : State) (b : Book S) (h : Follows S
         )
 
     undo-done : step S undo m ≡ done file-before entries-before m
-    unfolding step undoStep undoRule topRule undoOutcome _then_ unless
+    unfolding step undoStep undoRule topRule undoOutcome entryList _then_ unless
     undo-done =
         rw (
           stands-good,

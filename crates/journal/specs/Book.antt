@@ -8,7 +8,7 @@ use lib.Dec.{leb}
 use Rattle.fields.specs.Rule.{_then_, unless}
 use Rattle.fields.specs.declared.rule.Verdict.{Verdict}
 use Rattle.fields.specs.declared.rule.Verdict.the-variants as verdict
-use Rattle.journal.specs.Entry.{Entry, entrySize, fitsAlone}
+use Rattle.journal.specs.Entry.{Entry, entrySize, aloneRule}
 use Rattle.journal.specs.Change.{entryOf}
 use Rattle.journal.specs.Setting.{Setting, Call, edit, undo}
 use Rattle.journal.specs.declared.answer.Answer.{Answer}
@@ -67,7 +67,7 @@ module _ (S : Setting) where
   unfoldable pub bookEditRule : S .Edit → Book S → Verdict
   bookEditRule e b =
       S .refuses e (b .roomSize) (bookFile b)
-      then fitsAlone (entryOf (bookFile b) (S .applied e (bookFile b))) (b .historySize)
+      then aloneRule (entryOf (bookFile b) (S .applied e (bookFile b))) (b .historySize)
 
   -- it stands last, its entry kept
   unfoldable pub withEdit : S .Edit → Book S → Book S

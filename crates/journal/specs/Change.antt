@@ -4,7 +4,7 @@ use mathlib.Core.List.{List}
 use lib.ListN.{length, drop}
 use Rattle.fields.specs.Bytes.{part}
 use Rattle.moves.specs.Common.{commonStart, commonEnd}
-use Rattle.moves.specs.Splice.{cut}
+use Rattle.moves.specs.Cut.{cut}
 use Rattle.journal.specs.Entry.{Entry}
 
 -- p is the longest common beginning of the old and new file; s is the longest common ending of what follows it in each

@@ -11,10 +11,12 @@ use Rattle.journal.specs.Number.{numberBytes, numberAt}
 use Rattle.journal.specs.declared.number.NumberRead.{NumberRead}
 use Rattle.journal.specs.declared.number.NumberRead.the-variants.{Number, Broken}
 
--- an entry: p, k and the m old bytes
 pub record Entry : Type 0 where
+  -- p
   pub place : ℕ
+  -- k
   pub put : ℕ
+  -- the m old bytes
   pub old : List ℕ
 
 -- ---- an entry as bytes
@@ -26,8 +28,8 @@ unfoldable pub entrySize : Entry → ℕ
 entrySize e = length (entryBytes e)
 
 -- 37: a new entry alone exceeds a history buffer of so many bytes
-abbrev pub fitsAlone : Entry → ℕ → Verdict
-fitsAlone e size = unless (leb (entrySize e) size) 37 0
+abbrev pub aloneRule : Entry → ℕ → Verdict
+aloneRule e size = unless (leb (entrySize e) size) 37 0
 
 unfoldable pub historyBytes : List Entry → List ℕ
 historyBytes [] = []

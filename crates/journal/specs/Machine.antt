@@ -8,7 +8,7 @@ use Rattle.fields.specs.Bytes.{zeros}
 use Rattle.fields.specs.Rule.{_then_, unless, isGood}
 use Rattle.fields.specs.declared.rule.Verdict.{Verdict}
 use Rattle.fields.specs.declared.rule.Verdict.the-variants as verdict
-use Rattle.journal.specs.Entry.{Entry, Entries, whole, broken, entriesOf, fitsAlone, historyBytes}
+use Rattle.journal.specs.Entry.{Entry, Entries, whole, broken, entriesOf, aloneRule, historyBytes}
 use Rattle.journal.specs.History.{recorded}
 use Rattle.journal.specs.Change.{entryOf, revert}
 use Rattle.journal.specs.Setting.{Setting, Call, edit, undo}
@@ -44,15 +44,20 @@ fileOf m = take (m .length-in-room) (m .room)
 unfoldable pub historyOf : State → Entries
 historyOf m = entriesOf (take (m .length-in-history) (m .history))
 
-unfoldable pub isWhole : Entries → Verdict
-isWhole (whole es) = verdict.Good
-isWhole broken = verdict.Refused 31 0
+-- the entries of a history; none where it is not whole entries
+unfoldable pub entryList : Entries → List Entry
+entryList (whole es) = es
+entryList broken = []
+
+unfoldable pub wholeRule : Entries → Verdict
+wholeRule (whole es) = verdict.Good
+wholeRule broken = verdict.Refused 31 0
 
 unfoldable pub buffersRule : Setting → State → Verdict
 buffersRule S m =
     unless (leb (m .length-in-room) (length (m .room)) && leb (m .length-in-history) (length (m .history))) 30 0
     then S .accepts (fileOf m)
-    then isWhole (historyOf m)
+    then wholeRule (historyOf m)
 
 -- ---- outcomes
 
@@ -77,17 +82,15 @@ unfoldable pub editRule : (S : Setting) → S .Edit → State → Verdict
 editRule S e m =
     buffersRule S m
     then S .refuses e (length (m .room)) (fileOf m)
-    then fitsAlone (newEntry S e (fileOf m)) (length (m .history))
+    then aloneRule (newEntry S e (fileOf m)) (length (m .history))
 
--- (at Good the history is whole entries: `stands` has judged it)
-unfoldable pub editOutcome : (S : Setting) → S .Edit → State → Verdict → Entries → Outcome
-editOutcome S e m (verdict.Refused n p) t = refused n p m
-editOutcome S e m verdict.Good (whole es) =
+unfoldable pub editOutcome : (S : Setting) → S .Edit → State → Verdict → List Entry → Outcome
+editOutcome S e m (verdict.Refused n p) es = refused n p m
+editOutcome S e m verdict.Good es =
     done (S .applied e (fileOf m)) (recorded (length (m .history)) (newEntry S e (fileOf m)) es) m
-editOutcome S e m verdict.Good broken = refused 31 0 m
 
 unfoldable pub editStep : (S : Setting) → S .Edit → State → Outcome
-editStep S e m = editOutcome S e m (editRule S e m) (historyOf m)
+editStep S e m = editOutcome S e m (editRule S e m) (entryList (historyOf m))
 
 -- ---- an undo: 30, the codeplug's own, 31, 38 where the history is empty, 39 where its top entry does not fit
 
@@ -97,23 +100,21 @@ entryFits S e m =
     leb (e .place + e .put) (m .length-in-room)
     && (leb (length (revert e (fileOf m))) (length (m .room)) && isGood (S .accepts (revert e (fileOf m))))
 
-unfoldable pub topRule : Setting → Entries → State → Verdict
-topRule S broken m = verdict.Refused 31 0
-topRule S (whole []) m = verdict.Refused 38 0
-topRule S (whole (e ∷ es)) m = unless (entryFits S e m) 39 0
+unfoldable pub topRule : Setting → List Entry → State → Verdict
+topRule S [] m = verdict.Refused 38 0
+topRule S (e ∷ es) m = unless (entryFits S e m) 39 0
 
 unfoldable pub undoRule : Setting → State → Verdict
-undoRule S m = buffersRule S m then topRule S (historyOf m) m
+undoRule S m = buffersRule S m then topRule S (entryList (historyOf m)) m
 
--- (at Good the history has a top entry: `undoRule` has judged it)
-unfoldable pub undoOutcome : Setting → State → Verdict → Entries → Outcome
-undoOutcome S m (verdict.Refused n p) t = refused n p m
-undoOutcome S m verdict.Good (whole (e ∷ es)) = done (revert e (fileOf m)) es m
-undoOutcome S m verdict.Good (whole []) = refused 38 0 m
-undoOutcome S m verdict.Good broken = refused 31 0 m
+-- (at Good there is a top entry: `undoRule` has judged it)
+unfoldable pub undoOutcome : Setting → State → Verdict → List Entry → Outcome
+undoOutcome S m (verdict.Refused n p) es = refused n p m
+undoOutcome S m verdict.Good (e ∷ es) = done (revert e (fileOf m)) es m
+undoOutcome S m verdict.Good [] = refused 38 0 m
 
 unfoldable pub undoStep : Setting → State → Outcome
-undoStep S m = undoOutcome S m (undoRule S m) (historyOf m)
+undoStep S m = undoOutcome S m (undoRule S m) (entryList (historyOf m))
 
 -- ---- a list of calls on the same two buffers
 

@@ -12,7 +12,7 @@ unfoldable pub groups : ℕ → ℕ → List ℕ
 groups zero x = []
 groups (suc n) x = cond (ltb x 128) (x ∷ []) ((128 + x % 128) ∷ groups n (x / 128))
 
--- three groups hold every number up to 1,048,576
+-- three groups hold every number up to 1,048,576; no entry has a greater one, as both files of a change were read before
 unfoldable pub numberBytes : ℕ → List ℕ
 numberBytes x = groups 3 x
 

@@ -1,4 +1,4 @@
--- How the scan of a history names what it finds; no promise to a caller rests on more than these say.
+-- How the scan of a history names what it finds. No promise to a caller rests on these.
 use Prim.Native.Nat.{ℕ, _-_}
 use mathlib.Core.List.{List}
 use lib.ListN.{length}

@@ -14,7 +14,7 @@ ghost use Rattle.layout.specs.Header.{identityRule, headerRule};
 // The magic number's bytes are 52 54 58 43 00 00 00 00.
 const MAGIC_NUMBER: u64 = 0x4358_5452;
 
-fn judge_title(f: &[u8]) -> Verdict
+fn judge_identity(f: &[u8]) -> Verdict
     ensures { λ r. ⌜ r ≡ identityRule (now (f .entry)) ⌝ }
 {
     let left = f.len();
@@ -29,13 +29,13 @@ pub fn judge_header(f: &[u8]) -> Verdict
     ensures { λ r. ⌜ r ≡ headerRule (now (f .entry)) ⌝ }
 {
     let left = f.len();
-    let title = judge_title(f);
+    let identity = judge_identity(f);
     let timestamp = field(left, 0, 74, 8, VALUE, true);
     let contacts = field(left, 0, 82, 2, VALUE, true);
     let channels = field(left, 0, 84, 2, VALUE, true);
     let banks = field(left, 0, 86, 2, VALUE, true);
     first(
-        title,
+        identity,
         first(timestamp, first(contacts, first(channels, banks))),
     )
 }

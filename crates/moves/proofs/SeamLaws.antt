@@ -6,7 +6,7 @@ use native.Mathlib.Omega.{arith}
 use lib.ListN.{length, drop, length-append}
 use lib.Seq.{take-at, drop-at}
 use Rattle.fields.specs.Bytes.{over}
-use Rattle.moves.specs.Splice.{cut}
+use Rattle.moves.specs.Cut.{cut}
 
 -- x, which starts at p, replaced by as many bytes
 pub over-seam : (f a x z y : List ℕ) (p : ℕ) → f ≡ a ++ (x ++ z) → length a ≡ p → length x ≡ length y → over f p y ≡ a ++ (y ++ z)

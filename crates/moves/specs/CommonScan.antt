@@ -1,4 +1,4 @@
--- How the scans for a common beginning and ending go on; no promise to a caller rests on these.
+-- How the scans for a common beginning and ending go on. No promise to a caller rests on these.
 use Prim.Native.Nat.{ℕ, _+_, _-_, _≤_}
 use mathlib.Core.Path.{_≡_}
 use mathlib.Core.List.{List}

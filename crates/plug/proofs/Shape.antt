@@ -29,7 +29,7 @@ pub record BankShaped (b : Bank) : Type 0 where
 
 pub record Shaped (c : Plug) : Type 0 where
   pub preamble : length (c .preamble) ≡ 82
-  pub titleBytes : AllBytes (c .preamble)
+  pub preambleBytes : AllBytes (c .preamble)
   pub contactsFit : length (c .contacts) < 65536
   pub contacts : Wide 39 (c .contacts)
   pub contactsBytes : Every AllBytes (c .contacts)
@@ -186,7 +186,7 @@ module _ (c : Plug) (h : Shaped c) where
   pub bytes-plug : AllBytes (plugBytes c)
   unfolding plugBytes
   bytes-plug =
-      bytes-append (c .preamble) _ (h .titleBytes)
+      bytes-append (c .preamble) _ (h .preambleBytes)
       (bytes-append (countBytes c) _ (bytes-counts c)
       (bytes-append (joined (c .contacts)) _ (bytes-joined (c .contacts) (h .contactsBytes))
       (bytes-append (joined (c .channels)) _ (bytes-joined (c .channels) (h .channelsBytes))
@@ -349,7 +349,7 @@ shaped-of f h =
     let d = banks-start f in
     record {
       preamble = length-take-le 82 f (omega (arith, h .header));
-      titleBytes = bytes-take 82 f (h .bytes);
+      preambleBytes = bytes-take 82 f (h .bytes);
       contactsFit = rw (length-blocks 39 (contactCount f) (drop (contactPlace 0) f)) (contactCount-lt f (h .bytes));
       contacts = blocks-wide 39 (contactCount f) (drop (contactPlace 0) f) (rw (contacts-start, length-drop) (omega arith));
       contactsBytes = bytes-blocks 39 (contactCount f) (drop (contactPlace 0) f) (bytes-drop (contactPlace 0) f (h .bytes));

@@ -75,10 +75,11 @@ raised i x = cond (leb i x && not (eqb x 65535)) (x + 1) x
 unfoldable pub lowered : ℕ → ℕ → ℕ
 lowered i x = cond (ltb i x && not (eqb x 65535)) (x - 1) x
 
--- a channel with its contact index moved; an FM channel has none
+-- the number of two bytes at k moved
 unfoldable pub withIndexAt : ℕ → (ℕ → ℕ) → List ℕ → List ℕ
 withIndexAt k move s = over s k (littleBytes 2 (move (num s k 2)))
 
+-- a channel with its contact index moved; an FM channel has none
 unfoldable pub moveContact : (ℕ → ℕ) → List ℕ → List ℕ
 moveContact move s =
     cond (eqb (getD s 0 0) 1) (withIndexAt dmrContactAt move s)

@@ -4,7 +4,8 @@ use mathlib.Core.Path.{sym, ap, _∙_}
 use mathlib.Core.List.{List, [], _++_}
 use lib.ListN.{take, drop}
 use lib.Seq.{length-take-le}
-use Rattle.moves.specs.Splice.{spliced, cut}
+use Rattle.moves.specs.Cut.{cut}
+use Rattle.moves.specs.Splice.{spliced}
 use Rattle.journal.specs.Machine.{holding}
 use Rattle.change.specs.Plan.{counted, tableMoved, planned}
 use Rattle.change.specs.Fits.{Fits}

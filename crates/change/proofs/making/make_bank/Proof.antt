@@ -5,7 +5,8 @@ use mathlib.Core.List.{List, _++_}
 use lib.ListN.{take, drop, length}
 use lib.Seq.{length-take-le}
 use Rattle.fields.specs.Bytes.{zeros, littleBytes}
-use Rattle.moves.specs.Splice.{spliced, cut}
+use Rattle.moves.specs.Cut.{cut}
+use Rattle.moves.specs.Splice.{spliced}
 use Rattle.journal.specs.Machine.{holding}
 use Rattle.change.specs.Plan.{counted, tableMoved, planned}
 use Rattle.change.specs.Fits.{Fits}

@@ -1,7 +1,7 @@
 -- Each arm knows its kind; a second place that is not used is 0.
 use mathlib.Core.Path.{refl}
 use Rattle.fields.proofs.Laws.{AllBytes}
-use Rattle.edit.proofs.PlanLaws.{contact-over-there, contact-over, title-over, onePlace, ready-as, ready-at, makes-as, makes-at}
+use Rattle.edit.proofs.PlanLaws.{contact-over-there, contact-over, preamble-over, onePlace, ready-as, ready-at, makes-as, makes-at}
 use native.Mathlib.Omega.{arith}
 use borrow.Author.Needs.{needs}
 use Rattle.edit.proofs.planning.plan_of.Statement.{statement}
@@ -159,7 +159,7 @@ unfolding onePlace
 returns-12 c =
     let s = c .before .before in
     let h = ready-at _ _ _ _ _ refl (c .enum-told12 .given .1) (s .before .pre) in
-    makes-at _ _ _ _ _ _ refl (c .enum-told12 .given .1) (s .before .pre) (title-over _ (all-bytes s) _ h)
+    makes-at _ _ _ _ _ _ refl (c .enum-told12 .given .1) (s .before .pre) (preamble-over _ (all-bytes s) _ h)
 
 pub plan-of-spec : {M : Type 1} → statement M
 plan-of-spec =

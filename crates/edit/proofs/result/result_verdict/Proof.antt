@@ -90,9 +90,9 @@ enum-told-11 c = search needs
 enum-told-12 : tie.Need-enum-told-12
 enum-told-12 c = search needs
 
-set-title-requires : tie.Need-set-title-requires
+set-header-requires : tie.Need-set-header-requires
 unfolding recordLength
-set-title-requires c κs = c .before .before .before .before .pre .1 .0 ∙ ap recordLength (c .enum-told12 .given .1)
+set-header-requires c κs = c .before .before .before .before .pre .1 .0 ∙ ap recordLength (c .enum-told12 .given .1)
 
 returns : tie.Need-returns
 unfolding resultRule
@@ -140,7 +140,7 @@ returns-11 c = rw (c .enum-told11 .given .1)
 
 returns-12 : tie.Need-returns-12
 unfolding resultRule
-returns-12 c = rw (c .set-title .ensures, c .before .enum-told12 .given .1)
+returns-12 c = rw (c .set-header .ensures, c .before .enum-told12 .given .1)
 
 pub result-verdict-spec : {M : Type 1} → statement M
 result-verdict-spec =
@@ -165,7 +165,7 @@ result-verdict-spec =
     insert-entry-requires
     enum-told-11
     enum-told-12
-    set-title-requires
+    set-header-requires
     returns
     returns-2
     returns-3

@@ -4,8 +4,8 @@ use borrow.Author.Needs.{needs}
 use Rattle.layout.proofs.header.judge_header.Statement.{statement}
 use Rattle.layout.proofs.header.judge_header.Tie as tie
 
-judge-title-requires : tie.Need-judge-title-requires
-judge-title-requires c κs = search needs
+judge-identity-requires : tie.Need-judge-identity-requires
+judge-identity-requires c κs = search needs
 
 field-requires : tie.Need-field-requires
 field-requires c κs = search needs
@@ -44,14 +44,14 @@ returns c =
       e .before .field3 .ensures,
       e .before .before .field2 .ensures,
       e .before .before .before .field .ensures,
-      e .before .before .before .before .judge-title .ensures,
+      e .before .before .before .before .judge-identity .ensures,
     )
 
 pub judge-header-spec : {M : Type 1} → statement M
 judge-header-spec =
     tie.close
     (tie.spec
-    judge-title-requires
+    judge-identity-requires
     field-requires
     field-requires-2
     field-requires-3

@@ -1,8 +1,8 @@
 -- The fields in order; the code and the definition have the same shape.
 use Rattle.layout.specs.Header.{identityRule}
 use borrow.Author.Needs.{needs}
-use Rattle.layout.proofs.header.judge_title.Statement.{statement}
-use Rattle.layout.proofs.header.judge_title.Tie as tie
+use Rattle.layout.proofs.header.judge_identity.Statement.{statement}
+use Rattle.layout.proofs.header.judge_identity.Tie as tie
 
 le64-requires : tie.Need-le64-requires
 le64-requires c κs = search needs
@@ -47,8 +47,8 @@ returns c =
       e .before .before .before .before .before .le64 .ensures,
     )
 
-pub judge-title-spec : {M : Type 1} → statement M
-judge-title-spec =
+pub judge-identity-spec : {M : Type 1} → statement M
+judge-identity-spec =
     tie.close
     (tie.spec
     le64-requires

@@ -23,55 +23,55 @@ use Rattle.edit.proofs.Accepted.{Accepted, file-judged, contacts-pass, 
 use Rattle.plug.proofs.Judged.{banksOk-passes}
 
 -- the first ten bytes are kept
-abbrev newTitle : List ℕ → List ℕ → List ℕ
-newTitle t r = take 10 t ++ r
+abbrev newPreamble : List ℕ → List ℕ → List ℕ
+newPreamble t r = take 10 t ++ r
 
 module _ (t r : List ℕ) (h : length t ≡ 82) (g : length r ≡ 72) where
   kept-length : length (take 10 t) ≡ 10
   kept-length = length-take-le 10 t (omega arith)
 
-  pub title-length : length (newTitle t r) ≡ 82
-  title-length = omega (arith, length-append (take 10 t) r, kept-length)
+  pub preamble-length : length (newPreamble t r) ≡ 82
+  preamble-length = omega (arith, length-append (take 10 t) r, kept-length)
 
-  kept : (k n : ℕ) → k + n ≤ 10 → part (newTitle t r) k n ≡ part t k n
+  kept : (k n : ℕ) → k + n ≤ 10 → part (newPreamble t r) k n ≡ part t k n
   kept k n b =
       part-left (take 10 t) r k n (omega (arith, kept-length))
       ∙ part-part t 0 10 k n b
       ∙ rw zero-add
 
-  new : (k n j : ℕ) → j ≡ 10 + k → part (newTitle t r) j n ≡ part r k n
+  new : (k n j : ℕ) → j ≡ 10 + k → part (newPreamble t r) j n ≡ part r k n
   new k n j e =
       let d : j ≡ length (take 10 t) + k = omega (arith, kept-length) in
       rw d (part-right (take 10 t) r k n)
 
-  pub title-judged : identityRule t ≡ Good
-      → identityRule (newTitle t r) ≡ unless (textOk (part r 0 32)) 5 10 then unless (textOk (part r 32 32)) 5 42
+  pub preamble-judged : identityRule t ≡ Good
+      → identityRule (newPreamble t r) ≡ unless (textOk (part r 0 32)) 5 10 then unless (textOk (part r 32 32)) 5 42
   unfolding identityRule _then_
-  title-judged e =
+  preamble-judged e =
       let a = then-good _ _ e in
       let b = then-good _ _ (a .1) in
       let magic : eqb (num t 0 8) 0x43585452 ≡ true = field-good _ _ _ _ _ _ (a .0) .1 in
       let version : eqb (num t 8 2) 1 ≡ true = field-good _ _ _ _ _ _ (b .0) .1 in
-      let l = title-length in
+      let l = preamble-length in
       rw (
         kept 0 8 (omega arith),
         kept 8 2 (omega arith),
         new 0 32 10 refl,
         new 32 32 42 refl,
-        field-passes (length (newTitle t r)) 0 0 8 3 (eqb (num t 0 8) 0x43585452) (omega arith) magic,
-        field-passes (length (newTitle t r)) 0 8 2 4 (eqb (num t 8 2) 1) (omega arith) version,
-        field-inside (length (newTitle t r)) 0 10 32 5 (textOk (part r 0 32)) (omega arith),
-        field-inside (length (newTitle t r)) 0 42 32 5 (textOk (part r 32 32)) (omega arith),
+        field-passes (length (newPreamble t r)) 0 0 8 3 (eqb (num t 0 8) 0x43585452) (omega arith) magic,
+        field-passes (length (newPreamble t r)) 0 8 2 4 (eqb (num t 8 2) 1) (omega arith) version,
+        field-inside (length (newPreamble t r)) 0 10 32 5 (textOk (part r 0 32)) (omega arith),
+        field-inside (length (newPreamble t r)) 0 42 32 5 (textOk (part r 32 32)) (omega arith),
       )
 
 module _ (c : Plug) (a : Accepted c) (r : List ℕ) (g : length r ≡ 72) (b : AllBytes r) where
-  pub shaped-title : Shaped (withPreamble (newTitle (c .preamble) r) c)
+  pub shaped-preamble : Shaped (withPreamble (newPreamble (c .preamble) r) c)
   unfolding withPreamble
-  shaped-title =
+  shaped-preamble =
       let h = a .shaped in
       record {
-        preamble = title-length (c .preamble) r (h .preamble) g;
-        titleBytes = bytes-append (take 10 (c .preamble)) r (bytes-take 10 (c .preamble) (h .titleBytes)) b;
+        preamble = preamble-length (c .preamble) r (h .preamble) g;
+        preambleBytes = bytes-append (take 10 (c .preamble)) r (bytes-take 10 (c .preamble) (h .preambleBytes)) b;
         contactsFit = h .contactsFit;
         contacts = h .contacts;
         contactsBytes = h .contactsBytes;
@@ -83,21 +83,21 @@ module _ (c : Plug) (a : Accepted c) (r : List ℕ) (g : length r ≡ 72) (b : A
         offsetsFit = h .offsetsFit;
       }
 
-  same-length : length (plugBytes (withPreamble (newTitle (c .preamble) r) c)) ≡ length (plugBytes c)
+  same-length : length (plugBytes (withPreamble (newPreamble (c .preamble) r) c)) ≡ length (plugBytes c)
   unfolding withPreamble
-  same-length = length-plug (withPreamble (newTitle (c .preamble) r) c) shaped-title ∙ sym (length-plug c (a .shaped))
+  same-length = length-plug (withPreamble (newPreamble (c .preamble) r) c) shaped-preamble ∙ sym (length-plug c (a .shaped))
 
-  pub set-title-judged : fileRule (plugBytes (withPreamble (newTitle (c .preamble) r) c))
+  pub set-header-judged : fileRule (plugBytes (withPreamble (newPreamble (c .preamble) r) c))
       ≡ unless (textOk (part r 0 32)) 5 10 then unless (textOk (part r 32 32)) 5 42
   unfolding withPreamble _then_
-  set-title-judged =
-      file-judged (withPreamble (newTitle (c .preamble) r) c) shaped-title
+  set-header-judged =
+      file-judged (withPreamble (newPreamble (c .preamble) r) c) shaped-preamble
       ∙ rw (
         same-length,
         unless-passes (leb (length (plugBytes c)) 1_048_576) 1 0 (le-leb (length (plugBytes c)) 1_048_576 (a .short)),
         contacts-pass 88 (c .contacts) (a .contacts),
         channels-pass (c .contacts) _ (c .channels) (a .channels),
         banksOk-passes (length (c .channels)) _ (c .banks) (a .banks),
-        then-of-good (identityRule (newTitle (c .preamble) r)),
+        then-of-good (identityRule (newPreamble (c .preamble) r)),
       )
-      (title-judged (c .preamble) r (a .shaped .preamble) g (a .preamble))
+      (preamble-judged (c .preamble) r (a .shaped .preamble) g (a .preamble))

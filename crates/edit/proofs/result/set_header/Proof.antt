@@ -4,8 +4,8 @@ use lib.ListN.{length}
 use Rattle.fields.proofs.Laws.{length-part}
 use native.Mathlib.Omega.{arith}
 use borrow.Author.Needs.{needs}
-use Rattle.edit.proofs.result.set_title.Statement.{statement}
-use Rattle.edit.proofs.result.set_title.Tie as tie
+use Rattle.edit.proofs.result.set_header.Statement.{statement}
+use Rattle.edit.proofs.result.set_header.Tie as tie
 
 lend-requires : tie.Need-lend-requires
 lend-requires c κs = search needs
@@ -42,8 +42,8 @@ returns c =
       d .before .before .lend .ensures,
     )
 
-pub set-title-spec : {M : Type 1} → statement M
-set-title-spec =
+pub set-header-spec : {M : Type 1} → statement M
+set-header-spec =
     tie.close
     (tie.spec
     lend-requires
