@@ -2,7 +2,6 @@
 
 mod batch;
 mod cases;
-mod ffi;
 mod files;
 mod heap;
 mod lean;

@@ -1,7 +1,7 @@
 //! The three that are timed, behind one face.
 
-use crate::ffi;
 use crate::lean;
+use codeplug::c;
 use obcf_second::edit::{Answer, Edit};
 use obcf_second::Refusal;
 
@@ -60,7 +60,7 @@ impl Set {
     }
 }
 
-fn answer(a: ffi::CallAnswer) -> Result<Answer, Refusal> {
+fn answer(a: c::CallAnswer) -> Result<Answer, Refusal> {
     match a.number {
         0 => Ok(Answer {
             length: a.length,
@@ -81,7 +81,7 @@ impl Maker {
         match self {
             // Both buffers are lent whole, with their sizes.
             Maker::Proved => answer(unsafe {
-                ffi::codeplug_edit(
+                c::codeplug_edit(
                     room.as_mut_ptr(),
                     room.len(),
                     length,
@@ -105,7 +105,7 @@ impl Maker {
         let (room, past) = (&mut set.room.bytes, &mut set.past.bytes);
         match self {
             Maker::Proved => answer(unsafe {
-                ffi::codeplug_undo(
+                c::codeplug_undo(
                     room.as_mut_ptr(),
                     room.len(),
                     length,
@@ -122,7 +122,7 @@ impl Maker {
     pub fn judge(self, file: &[u8]) -> Result<[u16; 3], Refusal> {
         let counts = match self {
             Maker::Proved => {
-                let a = unsafe { ffi::codeplug_judge(file.as_ptr(), file.len()) };
+                let a = unsafe { c::codeplug_judge(file.as_ptr(), file.len()) };
                 return match a.number {
                     0 => Ok([a.contacts, a.channels, a.banks]),
                     number => Err(Refusal {

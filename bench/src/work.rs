@@ -1,9 +1,9 @@
 //! What is timed, for each of the three: one call takes each file of a batch in turn.
 
-use crate::ffi;
 use crate::lean;
 use crate::makers::{Maker, Set};
 use crate::timing::Timed;
+use codeplug::c;
 use obcf_second::address::{number_to_text, text_to_number};
 use obcf_second::edit::Edit;
 use obcf_second::Codeplug;
@@ -68,18 +68,18 @@ fn read_proved(file: &[u8]) {
     let into = texts.as_mut_ptr();
     // Pointers and lengths are those of `file` and `texts`.
     unsafe {
-        let counts = ffi::codeplug_judge(at, length);
+        let counts = c::codeplug_judge(at, length);
         assert_eq!(counts.number, 0);
         for n in 0..usize::from(counts.contacts) {
-            black_box(&ffi::codeplug_contact_once(at, length, n, into, 32));
+            black_box(&c::codeplug_contact_once(at, length, n, into, 32));
         }
         for n in 0..usize::from(counts.channels) {
-            black_box(&ffi::codeplug_channel_once(at, length, n, into, 64));
+            black_box(&c::codeplug_channel_once(at, length, n, into, 64));
         }
         for n in 0..usize::from(counts.banks) {
-            let bank = ffi::codeplug_bank_once(at, length, n, into, 32);
+            let bank = c::codeplug_bank_once(at, length, n, into, 32);
             for i in 0..usize::from(bank.entries) {
-                black_box(&ffi::codeplug_bank_entry_once(at, length, n, i));
+                black_box(&c::codeplug_bank_entry_once(at, length, n, i));
             }
         }
     }
@@ -135,7 +135,7 @@ impl Timed for Encoding<'_> {
             let text = black_box(text.as_slice());
             match self.maker {
                 Maker::Proved => {
-                    black_box(&unsafe { ffi::codeplug_encode_callsign(text.as_ptr(), text.len()) });
+                    black_box(&unsafe { c::codeplug_encode_callsign(text.as_ptr(), text.len()) });
                 }
                 Maker::Second => drop(black_box(text_to_number(text))),
                 Maker::Lean => drop(black_box(lean::address::encode(text))),
@@ -157,9 +157,7 @@ impl Timed for Decoding<'_> {
             let number = black_box(number);
             match self.maker {
                 Maker::Proved => {
-                    black_box(&unsafe {
-                        ffi::codeplug_decode_address(number, text.as_mut_ptr(), 9)
-                    });
+                    black_box(&unsafe { c::codeplug_decode_address(number, text.as_mut_ptr(), 9) });
                 }
                 // The second program's way is short already.
                 _ => drop(black_box(number_to_text(number, &mut text))),

@@ -35,5 +35,5 @@ pub fn encode_callsign(text: &str) -> Result<u64, Refused> {
 pub fn decode_address(number: u64) -> Result<Option<String>, Refused> {
     let mut callsign = [0; CALLSIGN_SIZE];
     let a = unsafe { c::codeplug_decode_address(number, callsign.as_mut_ptr(), callsign.len()) };
-    unless(a.number, a.place, (!a.broadcast).then(|| text::text_of(&callsign)))
+    unless(a.number, a.place, (a.broadcast == 0).then(|| text::text_of(&callsign)))
 }

@@ -1,11 +1,15 @@
-//! The structures and functions of include/codeplug.h, in its order and under its names.
+//! The structures and functions of include/codeplug.h, in its order and under its names: the one declaration of them in Rust, which
+//! compare/ and bench/ use too. Held to the header by the tests below.
+
+/// C's bool, which holds 0 or 1. A byte here, so that a caller may look at whatever comes back.
+pub type Flag = u8;
 
 /// Declares each structure as C lays it out, and `layout`, which tells for the tests what c/layout.c tells.
 macro_rules! structures {
     ($($name:ident, $c:literal: { $($field:ident: $type:ty),* })*) => {
         $(
             #[repr(C)]
-            #[derive(Clone, Copy, Default)]
+            #[derive(Clone, Copy, Debug, Default, PartialEq)]
             pub struct $name {
                 $(pub $field: $type),*
             }
@@ -28,14 +32,14 @@ macro_rules! structures {
 }
 
 structures! {
-    ContactValues, "contact_values": { address: u64, id: u32, mode: u8, kind: u8, rx_tone: bool, broadcast: bool }
+    ContactValues, "contact_values": { address: u64, id: u32, mode: u8, kind: u8, rx_tone: Flag, broadcast: Flag }
     ChannelCommon, "channel_common": {
         receive_hz: u32, transmit_hz: u32, latitude_e4: u16, longitude_e4: u16, altitude_plus_500: u16, latitude: i8, longitude: i8,
-        bandwidth: u8, receive_only: bool, power: u8, scan_list: u8, group_list: u8
+        bandwidth: u8, receive_only: Flag, power: u8, scan_list: u8, group_list: u8
     }
     ChannelInfo, "channel_info": {
-        contact: u16, mode: u8, receive_tone: u8, receive_tone_on: bool, transmit_tone: u8, transmit_tone_on: bool, receive_colour: u8,
-        transmit_colour: u8, slot: u8, receive_access: u8, transmit_access: u8, operation: u8, encryption: u8, position: bool
+        contact: u16, mode: u8, receive_tone: u8, receive_tone_on: Flag, transmit_tone: u8, transmit_tone_on: Flag, receive_colour: u8,
+        transmit_colour: u8, slot: u8, receive_access: u8, transmit_access: u8, operation: u8, encryption: u8, position: Flag
     }
     Refused, "refused": { number: u8, place: usize }
     JudgeAnswer, "judge_answer": { number: u8, place: usize, contacts: u16, channels: u16, banks: u16 }
@@ -45,7 +49,7 @@ structures! {
     BankAnswer, "bank_answer": { number: u8, place: usize, entries: u16 }
     EntryAnswer, "entry_answer": { number: u8, place: usize, channel: u16, next: usize }
     EncodeAnswer, "encode_answer": { number: u8, place: usize, address: u64 }
-    DecodeAnswer, "decode_answer": { number: u8, place: usize, length: usize, broadcast: bool }
+    DecodeAnswer, "decode_answer": { number: u8, place: usize, length: usize, broadcast: Flag }
     CallAnswer, "call_answer": { number: u8, place: usize, length: usize, used: usize, entries: usize }
 }
 

@@ -80,8 +80,8 @@ impl Info {
         let contact = (i.contact != NOBODY).then_some(i.contact);
         match i.mode {
             0 => Info::Fm {
-                receive_tone: Tone::from_c(i.receive_tone, i.receive_tone_on),
-                transmit_tone: Tone::from_c(i.transmit_tone, i.transmit_tone_on),
+                receive_tone: Tone::from_c(i.receive_tone, i.receive_tone_on != 0),
+                transmit_tone: Tone::from_c(i.transmit_tone, i.transmit_tone_on != 0),
             },
             1 => Info::Dmr { receive_colour: i.receive_colour, transmit_colour: i.transmit_colour, slot: i.slot, contact },
             _ => Info::M17 {
@@ -89,7 +89,7 @@ impl Info {
                 transmit_access: i.transmit_access,
                 operation: i.operation,
                 encryption: i.encryption,
-                position: i.position,
+                position: i.position != 0,
                 contact,
             },
         }
@@ -100,14 +100,14 @@ impl Info {
         match self {
             Info::Fm { receive_tone, transmit_tone } => ChannelInfo {
                 receive_tone: receive_tone.index(),
-                receive_tone_on: receive_tone.is_enabled(),
+                receive_tone_on: receive_tone.is_enabled().into(),
                 transmit_tone: transmit_tone.index(),
-                transmit_tone_on: transmit_tone.is_enabled(),
+                transmit_tone_on: transmit_tone.is_enabled().into(),
                 ..blank
             },
             Info::Dmr { receive_colour, transmit_colour, slot, .. } => ChannelInfo { receive_colour, transmit_colour, slot, ..blank },
             Info::M17 { receive_access, transmit_access, operation, encryption, position, .. } => {
-                ChannelInfo { receive_access, transmit_access, operation, encryption, position, ..blank }
+                ChannelInfo { receive_access, transmit_access, operation, encryption, position: position.into(), ..blank }
             }
         }
     }
@@ -121,7 +121,7 @@ impl Channel {
             receive_hz: common.receive_hz,
             transmit_hz: common.transmit_hz,
             bandwidth: common.bandwidth,
-            receive_only: common.receive_only,
+            receive_only: common.receive_only != 0,
             power: common.power,
             scan_list: common.scan_list,
             group_list: common.group_list,
@@ -144,7 +144,7 @@ impl Channel {
             latitude: self.latitude,
             longitude: self.longitude,
             bandwidth: self.bandwidth,
-            receive_only: self.receive_only,
+            receive_only: self.receive_only.into(),
             power: self.power,
             scan_list: self.scan_list,
             group_list: self.group_list,

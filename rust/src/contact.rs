@@ -24,8 +24,8 @@ pub enum Call {
 impl Contact {
     pub(crate) fn from_c(name: &[u8], values: ContactValues) -> Contact {
         let call = match values.mode {
-            1 => Call::Dmr { id: values.id, kind: values.kind, rx_tone: values.rx_tone },
-            _ if values.broadcast => Call::M17(Address::Broadcast),
+            1 => Call::Dmr { id: values.id, kind: values.kind, rx_tone: values.rx_tone != 0 },
+            _ if values.broadcast != 0 => Call::M17(Address::Broadcast),
             _ => Call::M17(Address::Callsign(values.address)),
         };
         Contact { name: text::text_of(name), call }
@@ -34,9 +34,9 @@ impl Contact {
 
 fn values_of(call: Call) -> ContactValues {
     match call {
-        Call::Dmr { id, kind, rx_tone } => ContactValues { mode: 1, id, kind, rx_tone, ..Default::default() },
+        Call::Dmr { id, kind, rx_tone } => ContactValues { mode: 1, id, kind, rx_tone: rx_tone.into(), ..Default::default() },
         Call::M17(Address::Callsign(address)) => ContactValues { mode: 2, address, ..Default::default() },
-        Call::M17(Address::Broadcast) => ContactValues { mode: 2, broadcast: true, ..Default::default() },
+        Call::M17(Address::Broadcast) => ContactValues { mode: 2, broadcast: 1, ..Default::default() },
     }
 }
 

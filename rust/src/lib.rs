@@ -17,7 +17,6 @@
 //! ```
 mod address;
 mod buffers;
-mod c;
 mod channel;
 mod contact;
 mod plug;
@@ -26,6 +25,8 @@ mod refused;
 mod text;
 mod tone;
 
+#[doc(hidden)]
+pub mod c;
 pub mod once;
 
 pub use address::{decode_address, encode_callsign, Address};
