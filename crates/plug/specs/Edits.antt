@@ -79,7 +79,7 @@ lowered i x = cond (ltb i x && not (eqb x 65535)) (x - 1) x
 unfoldable pub withIndexAt : ℕ → (ℕ → ℕ) → List ℕ → List ℕ
 withIndexAt k move s = over s k (littleBytes 2 (move (num s k 2)))
 
--- a channel with its contact index moved; an FM channel has none
+-- a channel with its contact index moved; an FM channel has none, and an accepted file no other mode
 unfoldable pub moveContact : (ℕ → ℕ) → List ℕ → List ℕ
 moveContact move s =
     cond (eqb (getD s 0 0) 1) (withIndexAt dmrContactAt move s)
