@@ -1,8 +1,9 @@
 //! Compares the proved library, called through its C interface, with the
 //! second program: every answer, and every lent buffer whole.
 //!
-//!     compare short               a fixed number of cases from fixed seeds
-//!     compare long SEED MINUTES   rounds of new seeds, for so long
+//!     compare shares              the shares of all parts, a line for each; what takes longest stands first
+//!     compare short PART SHARE    a share of a part's fixed number of cases from fixed seeds
+//!     compare long SEED MINUTES   rounds of new seeds, for so long; one at least
 //!     compare case PART SEED      one seed of a part again
 
 mod addresses;
@@ -36,7 +37,14 @@ fn main() -> ExitCode {
     let arguments: Vec<&str> = arguments.iter().map(String::as_str).collect();
     stopped::watch();
     let good = match arguments[..] {
-        ["short"] => Some(short()),
+        ["shares"] => {
+            shares();
+            Some(true)
+        }
+        ["short", name, share] => match (PARTS.iter().position(|part| part.name == name), share.parse()) {
+            (Some(n), Ok(share)) if share < PARTS[n].shares => Some(short(n, share)),
+            _ => None,
+        },
         ["long", seed, minutes] => match (seed.parse(), minutes.parse()) {
             (Ok(seed), Ok(minutes)) => Some(long(seed, minutes)),
             _ => None,
@@ -51,7 +59,7 @@ fn main() -> ExitCode {
         Some(true) => ExitCode::SUCCESS,
         Some(false) => ExitCode::FAILURE,
         None => {
-            eprintln!("usage: compare short | long SEED MINUTES | case PART SEED");
+            eprintln!("usage: compare shares | short PART SHARE | long SEED MINUTES | case PART SEED");
             ExitCode::from(2)
         }
     }
@@ -89,28 +97,39 @@ fn line(name: &str, seeds: u64, tally: &Tally, time: Duration) {
     );
 }
 
-fn short() -> bool {
+fn shares() {
+    for part in PARTS.iter().rev() {
+        for share in 0..part.shares {
+            println!("{} {share}", part.name);
+        }
+    }
+}
+
+/// A share of the short run of part n.
+fn short(n: usize, share: u64) -> bool {
+    let part = &PARTS[n];
+    let start = Instant::now();
     let mut work = Work::new();
-    let mut cases = 0;
-    for (n, part) in PARTS.iter().enumerate() {
-        let start = Instant::now();
-        let mut seeds = seeds_of(SHORT, n);
-        work.tally = Tally::new();
-        for _ in 0..part.seeds {
-            if !one(&mut work, part, seeds.number()) {
+    let mut seeds = seeds_of(SHORT, n);
+    let mut compared = 0;
+    for i in 0..part.seeds {
+        let seed = seeds.number();
+        if i % part.shares == share {
+            compared += 1;
+            if !one(&mut work, part, seed) {
                 return false;
             }
         }
-        line(part.name, part.seeds, &work.tally, start.elapsed());
-        let met = work.tally.refusals();
-        if let Some(number) = part.meets.iter().find(|number| !met.contains(number)) {
-            eprintln!("{}: refusal {number} was not met", part.name);
-            return false;
-        }
-        cases += work.tally.cases();
     }
-    println!("{cases} cases, no difference");
-    true
+    line(part.name, compared, &work.tally, start.elapsed());
+    let met = work.tally.refusals();
+    match part.meets.iter().find(|number| !met.contains(number)) {
+        None => true,
+        Some(number) => {
+            eprintln!("{}: refusal {number} was not met", part.name);
+            false
+        }
+    }
 }
 
 fn long(seed: u64, minutes: u64) -> bool {
@@ -120,7 +139,7 @@ fn long(seed: u64, minutes: u64) -> bool {
     let mut told: Vec<(u64, Tally, Duration)> = PARTS.iter().map(|_| (0, Tally::new(), Duration::ZERO)).collect();
     println!("seed {seed}, {minutes} minutes");
     let mut round = seed;
-    while start.elapsed() < limit {
+    while round == seed || start.elapsed() < limit {
         for (n, part) in PARTS.iter().enumerate() {
             let began = Instant::now();
             let mut seeds = seeds_of(round, n);

@@ -13,6 +13,8 @@ pub struct Part {
     /// How many seeds a short run has, and a round of a long one.
     pub seeds: u64,
     pub round: u64,
+    /// In how many shares the short run's seeds are compared, at the same time where there are processors.
+    pub shares: u64,
     /// The refusals that a short run must meet.
     pub meets: &'static [u8],
 }
@@ -23,6 +25,7 @@ pub const PARTS: [Part; 10] = [
         run: files::any,
         seeds: 200_000,
         round: 5_000,
+        shares: 1,
         meets: &[2, 3, 4, 5, 6, 7, 8, 9, 10, 11, 12, 25, 33],
     },
     Part {
@@ -30,6 +33,7 @@ pub const PARTS: [Part; 10] = [
         run: files::damaged,
         seeds: 15_000,
         round: 500,
+        shares: 1,
         meets: &[2, 3, 4, 5, 6, 7, 8, 9, 10, 11, 12],
     },
     Part {
@@ -37,6 +41,7 @@ pub const PARTS: [Part; 10] = [
         run: files::cut,
         seeds: 15_000,
         round: 500,
+        shares: 1,
         meets: &[2, 12],
     },
     Part {
@@ -44,6 +49,7 @@ pub const PARTS: [Part; 10] = [
         run: records::contact,
         seeds: 3_000_000,
         round: 50_000,
+        shares: 1,
         meets: &[5, 6, 7, 8, 25],
     },
     Part {
@@ -51,6 +57,7 @@ pub const PARTS: [Part; 10] = [
         run: records::channel,
         seeds: 3_000_000,
         round: 50_000,
+        shares: 1,
         meets: &[5, 6, 7, 25],
     },
     Part {
@@ -58,6 +65,7 @@ pub const PARTS: [Part; 10] = [
         run: addresses::any,
         seeds: 3_000_000,
         round: 50_000,
+        shares: 1,
         meets: &[20, 21, 22, 23, 24],
     },
     Part {
@@ -65,6 +73,7 @@ pub const PARTS: [Part; 10] = [
         run: addresses::every_short,
         seeds: 1,
         round: 0,
+        shares: 1,
         meets: &[20, 21, 22, 23],
     },
     Part {
@@ -72,6 +81,7 @@ pub const PARTS: [Part; 10] = [
         run: addresses::tones,
         seeds: 1,
         round: 0,
+        shares: 1,
         meets: &[],
     },
     Part {
@@ -79,6 +89,7 @@ pub const PARTS: [Part; 10] = [
         run: calls::list,
         seeds: 180_000,
         round: 5_000,
+        shares: 4,
         meets: &[2, 3, 4, 5, 6, 7, 8, 9, 10, 11, 12, 30, 31, 32, 33, 35, 36, 37, 38, 39],
     },
     Part {
@@ -86,6 +97,7 @@ pub const PARTS: [Part; 10] = [
         run: large::either,
         seeds: 200,
         round: 6,
+        shares: 1,
         meets: &[1, 34, 36, 37],
     },
 ];

@@ -1,11 +1,11 @@
 // The calls of a list, each on what the last one left.
-use crate::case;
 use crate::print;
-use editor::editing::edit;
-use editor::undo::undo;
+use cases::case;
+use editor::edit;
 use fields::numbers::byte_at;
 use fields::numbers::le64;
 use journal::answer::Answer;
+use undo::undo;
 ghost use Prim.Native.Nat.{_<_, _^_};
 ghost use lib.ListN.{length};
 

@@ -1,8 +1,9 @@
 // Makes the lists of calls of a corpus on standard input, one line for each call, as the second program writes them (second/README.md).
 mod calls; // calls.rt: the calls of a list
-mod case; // case.rt: a case, and the strings in it
 mod print; // print.rt: the words of a line
+mod read; // read.rt: a case
 
+use cases::case;
 use fields::numbers::le32;
 use fields::numbers::le64;
 ghost use Prim.Native.Nat.{_<_, _^_};
@@ -32,7 +33,7 @@ fn answer(case: &[u8], room: &mut [u8], history: &mut [u8])
 fn one_case(buffer: &mut [u8], room: &mut [u8], history: &mut [u8]) -> bool
     requires { ⌜ length (now buffer) < 2 ^ 32 ⌝ }
 {
-    let got = case::read(buffer);
+    let got = read::case(buffer);
     if got < 0 {
         return false;
     }

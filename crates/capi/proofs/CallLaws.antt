@@ -4,7 +4,7 @@ use Prim.Native.Nat.{ℕ}
 use mathlib.Core.List.{List}
 use Rattle.journal.specs.Machine.{Outcome}
 use Rattle.journal.specs.declared.answer.Answer.{Answer}
-use Rattle.editor.specs.Calls.{left}
+use Rattle.preconditions.specs.Calls.{left}
 use Rattle.capi.specs.Calls.{callAnswer, Called}
 use Rattle.capi.specs.declared.calls.CallAnswer.{CallAnswer}
 

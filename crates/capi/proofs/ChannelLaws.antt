@@ -9,7 +9,8 @@ use borrow.Author.Tests.{le-leb, lt-leb}
 use Rattle.fields.specs.Rule.{_then_, unless, written}
 use Rattle.fields.specs.declared.rule.Verdict.{Verdict}
 use Rattle.fields.specs.declared.rule.Verdict.the-variants.{Good, Refused}
-use Rattle.channel.specs.Channel.{modeOk, channelGiven, channelWritten}
+use Rattle.channel.specs.Values.{modeOk}
+use Rattle.channel_writer.specs.Writing.{channelGiven, channelWritten}
 use Rattle.channel.specs.declared.Common.{Common}
 use Rattle.channel.specs.declared.Info.{Info}
 use Rattle.capi.specs.Channels.{commonFrom, infoFrom, channelAsked, channelLeft}

@@ -10,8 +10,8 @@ use Rattle.fields.specs.declared.rule.Verdict.{Verdict}
 use Rattle.fields.specs.declared.rule.Verdict.the-variants.{Good, Refused}
 use Rattle.contact.specs.Contact.{contactAnswer}
 use Rattle.contact.specs.declared.ContactRead.{ContactRead}
-use Rattle.channel.specs.Channel.{channelAnswer}
-use Rattle.channel.specs.declared.ChannelRead.{ChannelRead}
+use Rattle.channel_reader.specs.Reading.{channelAnswer}
+use Rattle.channel_reader.specs.declared.ChannelRead.{ChannelRead}
 use Rattle.codeplug.specs.Read.{headerAnswer, bankAnswer}
 use Rattle.codeplug.specs.declared.HeaderRead.{HeaderRead}
 use Rattle.codeplug.specs.declared.BankRead.{BankRead}

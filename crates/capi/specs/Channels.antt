@@ -10,11 +10,13 @@ use Rattle.fields.specs.declared.rule.Verdict.the-variants.{Refused}
 use Rattle.tones.specs.Tone.{toneIndex}
 use Rattle.tones.specs.declared.Tone.{Tone}
 use Rattle.tones.specs.declared.Tone.the-variants.{Enabled, Disabled}
-use Rattle.channel.specs.Channel.{modeOk, contactIndexOf, contactIndexNumber, channelAnswer, channelGiven, channelBytes}
+use Rattle.channel.specs.Values.{modeOk, contactIndexOf, contactIndexNumber}
+use Rattle.channel_reader.specs.Reading.{channelAnswer}
+use Rattle.channel_writer.specs.Writing.{channelGiven, channelBytes}
 use Rattle.channel.specs.declared.Common.{Common}
 use Rattle.channel.specs.declared.Info.{Info}
 use Rattle.channel.specs.declared.Info.the-variants.{Fm, Dmr, M17}
-use Rattle.channel.specs.declared.ChannelRead.{ChannelRead}
+use Rattle.channel_reader.specs.declared.ChannelRead.{ChannelRead}
 use Rattle.capi.specs.Answers.{numberOf, placeOf}
 use Rattle.capi.specs.declared.channel_fields.CommonFields.{CommonFields}
 use Rattle.capi.specs.declared.channel_fields.InfoFields.{InfoFields}

@@ -4,7 +4,7 @@ use mathlib.Core.Bool.{Bool, true, false, cond}
 use mathlib.Core.List.{List, []}
 use lib.ListN.{length}
 use lib.Dec.{leb, eqb}
-use Rattle.fields.specs.Text.{givenOk}
+use Rattle.text.specs.Text.{givenOk}
 use Rattle.fields.specs.Rule.{_then_, unless, written}
 use Rattle.fields.specs.declared.rule.Verdict.{Verdict}
 use Rattle.fields.specs.declared.rule.Verdict.the-variants.{Refused}

@@ -7,8 +7,8 @@ use lib.Dec.{leb}
 use Rattle.fields.specs.Rule.{written}
 use Rattle.fields.specs.declared.rule.Verdict.the-variants.{Refused}
 use Rattle.codeplug.specs.Read.{headerAnswer, bankAnswer}
-use Rattle.codeplug.specs.declared.Judged.{Judged}
-use Rattle.codeplug.specs.declared.Judged.the-variants as judged
+use Rattle.validation.specs.declared.Judged.{Judged}
+use Rattle.validation.specs.declared.Judged.the-variants as judged
 use Rattle.codeplug.specs.declared.HeaderRead.{HeaderRead}
 use Rattle.codeplug.specs.declared.BankRead.{BankRead}
 use Rattle.entries.specs.declared.EntryStep.{EntryStep}

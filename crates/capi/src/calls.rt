@@ -2,8 +2,8 @@
 use journal::answer::Answer;
 ghost use mathlib.Core.Path.{_≡_};
 ghost use Rattle.journal.specs.Machine.{editStep, undoStep};
-ghost use Rattle.edit.specs.Setting.{editing};
-ghost use Rattle.editor.specs.Calls.{lent, asked};
+ghost use Rattle.edits.specs.Setting.{editing};
+ghost use Rattle.preconditions.specs.Calls.{lent, asked};
 ghost use Rattle.capi.specs.Calls.{callAnswer, Called};
 
 // Both new lengths and the number of entries left; 0 beside a refusal.
@@ -47,7 +47,7 @@ pub extern "C" fn codeplug_undo(
 ) -> CallAnswer
     ensures { λ r. ⌜ Called (undoStep editing (lent (now (room .entry)) len (now (history .entry)) used)) r (now (room .exit)) (now (history .exit)) ⌝ }
 {
-    call_answer(editor::undo::undo(room, len, history, used))
+    call_answer(undo::undo(room, len, history, used))
 }
 
 // Makes an edit in both buffers, or refuses it and leaves them as lent.
@@ -64,5 +64,5 @@ pub extern "C" fn codeplug_edit(
 ) -> CallAnswer
     ensures { λ r. ⌜ Called (editStep editing (asked kind first second (now (bytes .entry))) (lent (now (room .entry)) len (now (history .entry)) used)) r (now (room .exit)) (now (history .exit)) ⌝ }
 {
-    call_answer(editor::editing::edit(room, len, history, used, kind, first, second, bytes))
+    call_answer(editor::edit(room, len, history, used, kind, first, second, bytes))
 }

@@ -10,13 +10,13 @@ use crate::channel_fields::common_fields;
 use crate::channel_fields::common_from;
 use crate::channel_fields::info_fields;
 use crate::channel_fields::info_from;
-use channel::CHANNEL_LENGTH;
-use channel::ChannelRead;
-use fields::rule::MODE;
-use fields::rule::SHORT_BUFFER;
+use channel_reader::ChannelRead;
 use fields::rule::Verdict;
 use fields::rule::first;
 use fields::rule::unless;
+use format::refusals::MODE;
+use format::refusals::SHORT_BUFFER;
+use format::sizes::CHANNEL_SIZE;
 ghost use mathlib.Core.Path.{_≡_};
 ghost use lib.ListN.{length};
 ghost use Rattle.codeplug.specs.Read.{channelRead};
@@ -39,7 +39,7 @@ fn channel_told(size: usize, read: ChannelRead) -> ChannelRead
     if 64 <= size {
         return read;
     }
-    let channel = channel::read::blank();
+    let channel = channel_reader::blank();
     ChannelRead {
         verdict: Verdict::Refused(SHORT_BUFFER, 0),
         channel,
@@ -103,11 +103,11 @@ fn write_asked(
 {
     if 2 < info.mode {
         return first(
-            unless(CHANNEL_LENGTH <= out.len(), SHORT_BUFFER, 0),
+            unless(CHANNEL_SIZE <= out.len(), SHORT_BUFFER, 0),
             Verdict::Refused(MODE, 0),
         );
     }
-    channel::write::write(out, name, description, common_from(common), info_from(info))
+    channel_writer::write(out, name, description, common_from(common), info_from(info))
 }
 
 // Writes a channel's 90 bytes over the beginning of a buffer.

@@ -4,19 +4,19 @@ use crate::answers::number_of;
 use crate::answers::place_of;
 use crate::answers::put_text;
 use crate::answers::refusal_of;
-use contact::CONTACT_LENGTH;
 use contact::ContactInfo;
 use contact::ContactRead;
 use contact::DmrContact;
 use contact::Settings;
-use fields::rule::MODE;
-use fields::rule::SHORT_BUFFER;
-use fields::rule::TEXT;
 use fields::rule::Verdict;
 use fields::rule::first;
 use fields::rule::unless;
-use fields::text::given_ok;
+use format::refusals::MODE;
+use format::refusals::SHORT_BUFFER;
+use format::refusals::TEXT;
+use format::sizes::CONTACT_SIZE;
 use m17::Address;
+use text::given_ok;
 ghost use mathlib.Core.Path.{_≡_};
 ghost use lib.ListN.{length};
 ghost use Rattle.codeplug.specs.Read.{contactRead};
@@ -168,7 +168,7 @@ fn write_asked(out: &mut [u8], name: &[u8], v: ContactFields) -> Verdict
     if mode == contact::M17 {
         return contact::write::write(out, name, info_from(v));
     }
-    let short = unless(CONTACT_LENGTH <= out.len(), SHORT_BUFFER, 0);
+    let short = unless(CONTACT_SIZE <= out.len(), SHORT_BUFFER, 0);
     let text = unless(given_ok(name), TEXT, 0);
     first(short, first(text, Verdict::Refused(MODE, 32)))
 }

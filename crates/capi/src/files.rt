@@ -4,13 +4,13 @@ use crate::answers::place_of;
 use crate::answers::put_texts;
 use codeplug::Header;
 use codeplug::HeaderRead;
-use codeplug::Judged;
-use fields::rule::SHORT_BUFFER;
 use fields::rule::Verdict;
+use format::refusals::SHORT_BUFFER;
 use layout::Counts;
+use validation::Judged;
 ghost use mathlib.Core.Path.{_≡_};
 ghost use lib.ListN.{length};
-ghost use Rattle.codeplug.specs.File.{judgement};
+ghost use Rattle.validation.specs.File.{judgement};
 ghost use Rattle.codeplug.specs.Read.{headerRead};
 ghost use Rattle.capi.specs.Files.{judgedAnswer, headerTold, headerTaken, headerTexts};
 
@@ -38,7 +38,7 @@ pub struct HeaderAnswer {
 pub extern "C" fn codeplug_judge(file: &[u8]) -> JudgeAnswer
     ensures { λ r. ⌜ r ≡ judgedAnswer (judgement (now (file .entry))) ⌝ }
 {
-    match codeplug::judge::judge(file) {
+    match validation::judge::judge(file) {
         Judged::Accepted(c) => JudgeAnswer {
             number: 0,
             place: 0,

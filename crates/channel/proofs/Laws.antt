@@ -8,7 +8,7 @@ use lib.ListN.{length, getD}
 use lib.Dec.{leb, ltb, eqb}
 use borrow.Author.Tests.{ltb-true, ltb-false, le-leb, lt-leb, eq-eqb, ne-eqb, leb-true, leb-false, eqb-true}
 use Rattle.fields.specs.Bytes.{part, num}
-use Rattle.fields.specs.Text.{textOk}
+use Rattle.text.specs.Text.{textOk}
 use Rattle.fields.specs.Rule.{_then_, fieldOf}
 use Rattle.fields.specs.declared.rule.Verdict.{Verdict}
 use Rattle.fields.specs.declared.rule.Verdict.the-variants.{Good}
@@ -16,7 +16,8 @@ use Rattle.fields.proofs.Laws.{then-good, both-good, field-good, field-passes}
 use Rattle.bits.specs.Packed.{signedOf, choiceOk, halvesOf}
 use Rattle.bits.proofs.Laws.{signedOf-low, signedOf-high, and-left, and-right, and-both}
 use Rattle.tones.specs.Tone.{toneOk}
-use Rattle.channel.specs.Channel.{modeOk, latitudeOk, isNinety, fractionOk, latitudeFractionOk, slotOk, operationOk, encryptionOk, headRule, textsRule, locationRule, fmRule, dmrRule, m17Rule, infoRule, channelRule}
+use Rattle.channel.specs.Values.{modeOk, latitudeOk, isNinety, fractionOk, latitudeFractionOk, slotOk, operationOk, encryptionOk}
+use Rattle.channel.specs.Rule.{headRule, textsRule, locationRule, fmRule, dmrRule, m17Rule, infoRule, channelRule}
 
 -- ---- a latitude by its byte
 

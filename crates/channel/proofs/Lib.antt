@@ -1,4 +1,2 @@
--- Laws of channel records, and the theorems on reading and writing together.
+-- Laws of channel records.
 pub mod Laws
-pub mod WriteLaws
-pub mod RoundTrip

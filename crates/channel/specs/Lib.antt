@@ -1,2 +1,3 @@
--- Channel records of 90 bytes.
-pub mod Channel
+-- Channels: single values, and the rule of a record.
+pub mod Values
+pub mod Rule

@@ -7,17 +7,19 @@ use crate::values::operation_ok;
 use crate::values::slot_ok;
 use fields::numbers::byte_at;
 use fields::numbers::le16;
-use fields::rule::CONTACT_INDEX;
-use fields::rule::MODE;
-use fields::rule::VALUE;
 use fields::rule::Verdict;
 use fields::rule::field;
 use fields::rule::first;
-use fields::text::text_field;
+use format::refusals::CONTACT_INDEX;
+use format::refusals::MODE;
+use format::refusals::VALUE;
+use format::sizes::DMR_CONTACT_AT;
+use format::sizes::M17_CONTACT_AT;
+use text::text_field;
 use tones::tone_ok;
 ghost use mathlib.Core.Path.{_≡_};
 ghost use Prim.Native.Nat.{_<_, _^_};
-ghost use Rattle.channel.specs.Channel.{headRule, textsRule, locationRule, fmRule, dmrRule, m17Rule, infoRule, channelRule};
+ghost use Rattle.channel.specs.Rule.{headRule, textsRule, locationRule, fmRule, dmrRule, m17Rule, infoRule, channelRule};
 
 fn judge_head(s: &[u8], base: usize) -> Verdict
     requires { ⌜ base < 2 ^ 62 ⌝ }
@@ -93,7 +95,7 @@ fn judge_dmr(s: &[u8], base: usize, named: bool) -> Verdict
     let left = s.len();
     let colours = field(left, base, 85, 1, VALUE, true);
     let slot = field(left, base, 86, 1, VALUE, slot_ok(byte_at(s, 86)));
-    let contact = field(left, base, 87, 2, CONTACT_INDEX, named);
+    let contact = field(left, base, DMR_CONTACT_AT, 2, CONTACT_INDEX, named);
     let pad = field(left, base, 89, 1, VALUE, byte_at(s, 89) == 0);
     first(colours, first(slot, first(contact, pad)))
 }
@@ -107,7 +109,7 @@ fn judge_m17(s: &[u8], base: usize, named: bool) -> Verdict
     let access = field(left, base, 85, 1, VALUE, true);
     let operation = field(left, base, 86, 1, VALUE, operation_ok(h.high, h.low));
     let position = field(left, base, 87, 1, VALUE, byte_at(s, 87) <= 1);
-    let contact = field(left, base, 88, 2, CONTACT_INDEX, named);
+    let contact = field(left, base, M17_CONTACT_AT, 2, CONTACT_INDEX, named);
     first(access, first(operation, first(position, contact)))
 }
 

@@ -1,15 +1,10 @@
-// Channel records of 90 bytes: judged, read and written (document 01, "The file").
+// Channel records of 90 bytes: their values, and their judge (document 01, "The file").
 pub mod judge; // judge.rt: the first bad field of a channel
-pub mod read; // read.rt: a channel's bytes to its value
 pub mod values; // values.rt: the rules of single values
 pub mod whole; // whole.rt: whether a whole channel is good, without a branch
-pub mod write; // write.rt: a channel's value to its bytes
 
 use bits::Halves;
-use fields::rule::Verdict;
 use tones::Tone;
-
-pub const CHANNEL_LENGTH: usize = 90;
 
 pub const FM: u8 = 0;
 
@@ -88,10 +83,4 @@ pub struct Channel {
     pub description: [u8; 32],
     pub common: Common,
     pub info: Info,
-}
-
-// A reader's answer. Beside a refusal stands a blank channel.
-pub struct ChannelRead {
-    pub verdict: Verdict,
-    pub channel: Channel,
 }

@@ -2,10 +2,15 @@
 use crate::ContactIndex;
 use crate::Traits;
 use bits::Choice;
+use fields::numbers::byte_at;
+use fields::numbers::le16;
+use format::sizes::DMR_CONTACT_AT;
+use format::sizes::M17_CONTACT_AT;
 ghost use mathlib.Core.Path.{_≡_};
 ghost use mathlib.Core.Bool.{_&&_};
 ghost use Rattle.bits.specs.Packed.{signedOf};
-ghost use Rattle.channel.specs.Channel.{traitsOf, traitsChoice, latitudeOk, latitudeFractionOk, fractionOk, slotOk, operationOk, encryptionOk, contactIndexOf, contactIndexNumber};
+ghost use Rattle.channel.specs.Rule.{namedContact};
+ghost use Rattle.channel.specs.Values.{traitsOf, traitsChoice, latitudeOk, latitudeFractionOk, fractionOk, slotOk, operationOk, encryptionOk, contactIndexOf, contactIndexNumber};
 
 pub fn traits_of(b: u8) -> Traits
     ensures { λ r. ⌜ r ≡ traitsOf b ⌝ }
@@ -76,4 +81,18 @@ pub fn contact_index_number(c: ContactIndex) -> u16
         ContactIndex::Nobody => 65535,
         ContactIndex::Index(x) => x,
     }
+}
+
+// The contact index of a DMR or M17 channel; an FM channel has none.
+pub fn named_contact(s: &[u8]) -> ContactIndex
+    ensures { λ r. ⌜ r ≡ namedContact (now (s .entry)) ⌝ }
+{
+    let m = byte_at(s, 0);
+    if m == crate::FM {
+        return ContactIndex::Nobody;
+    }
+    if m == crate::DMR {
+        return contact_index_of(le16(s, DMR_CONTACT_AT));
+    }
+    contact_index_of(le16(s, M17_CONTACT_AT))
 }

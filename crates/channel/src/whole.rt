@@ -7,13 +7,13 @@ use crate::values::operation_ok;
 use crate::values::slot_ok;
 use fields::numbers::le16;
 use fields::rule::pick;
-use fields::text::text_ok;
+use text::text_ok;
 use tones::tone_ok;
 ghost use mathlib.Core.Path.{_≡_};
 ghost use Prim.Native.Nat.{ℕ};
 ghost use lib.ListN.{length};
 ghost use Rattle.fields.specs.Rule.{isGood};
-ghost use Rattle.channel.specs.Channel.{headRule, textsRule, locationRule, fmRule, dmrRule, m17Rule, infoRule, channelRule};
+ghost use Rattle.channel.specs.Rule.{headRule, textsRule, locationRule, fmRule, dmrRule, m17Rule, infoRule, channelRule};
 
 fn head_good(s: &[u8]) -> bool
     requires { ⌜ length (now s) ≡ 90 ⌝ }

@@ -12,7 +12,10 @@ use Rattle.fields.specs.declared.rule.Verdict.{Verdict}
 use Rattle.fields.specs.declared.rule.Verdict.the-variants.{Good, Refused}
 use Rattle.fields.proofs.Laws.{num-part}
 use Rattle.contact.specs.Contact.{contactAnswer}
-use Rattle.channel.specs.Channel.{channelRule, namedContact, contactIndexOf, fmOf, dmrOf, m17Of, infoOf, channelOf, channelAnswer, modeNumber}
+use Rattle.channel.specs.Rule.{channelRule, namedContact}
+use Rattle.channel.specs.Values.{contactIndexOf}
+use Rattle.channel_reader.specs.Reading.{fmOf, dmrOf, m17Of, infoOf, channelOf, channelAnswer}
+use Rattle.channel.specs.Values.{modeNumber}
 use Rattle.channel.specs.declared.ContactIndex.{ContactIndex}
 use Rattle.channel.specs.declared.ContactIndex.the-variants.{Nobody}
 use Rattle.channel.specs.declared.Info.{Info}
@@ -23,9 +26,10 @@ use Rattle.layout.specs.Banks.{bankPlace, entryCount}
 use Rattle.layout.proofs.Laws.{bank-good, entry-good}
 use Rattle.entries.specs.Entry.{entryStep}
 use Rattle.entries.specs.declared.EntryStep.the-variants as step
-use Rattle.codeplug.specs.File.{namesContact, indexOk, fileRule}
+use Rattle.validation.specs.File.{namesContact, indexOk, fileRule}
 use Rattle.codeplug.specs.Read.{placeRule, contactRead, channelRead, bankAnswer, bankRead, entriesAnswer, entriesRead, entryAnswer, entryRead}
-use Rattle.codeplug.proofs.Laws.{file-good, channel-there, place-good, place-passes}
+use Rattle.validation.proofs.Laws.{file-good, channel-there}
+use Rattle.codeplug.proofs.Laws.{place-good, place-passes}
 
 -- ---- every record below its count is read
 

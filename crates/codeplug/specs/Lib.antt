@@ -1,4 +1,3 @@
--- The codeplug file: what is accepted, and what its records are.
-pub mod File
+-- The codeplug file: what its records are.
 pub mod Read
 pub mod Once

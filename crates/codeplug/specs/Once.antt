@@ -10,11 +10,11 @@ use Rattle.fields.specs.Rule.{_then_, unless}
 use Rattle.fields.specs.declared.rule.Verdict.{Verdict}
 use Rattle.contact.specs.Contact.{contactAnswer}
 use Rattle.contact.specs.declared.ContactRead.{ContactRead}
-use Rattle.channel.specs.Channel.{channelAnswer}
-use Rattle.channel.specs.declared.ChannelRead.{ChannelRead}
+use Rattle.channel_reader.specs.Reading.{channelAnswer}
+use Rattle.channel_reader.specs.declared.ChannelRead.{ChannelRead}
 use Rattle.layout.specs.Places.{contactCount, channelCount, bankCount, contactPlace, channelPlace, offsetPlace}
 use Rattle.layout.specs.Banks.{offsetAt, offsetTarget, bankHead}
-use Rattle.codeplug.specs.File.{contactAt, channelAt}
+use Rattle.validation.specs.File.{contactAt, channelAt}
 use Rattle.codeplug.specs.Read.{bankAnswer, entriesAnswer}
 use Rattle.codeplug.specs.declared.BankRead.{BankRead}
 

@@ -8,11 +8,11 @@ use Rattle.fields.specs.declared.rule.Verdict.{Verdict}
 use Rattle.fields.specs.declared.rule.Verdict.the-variants.{Good, Refused}
 use Rattle.contact.specs.Contact.{contactAnswer}
 use Rattle.contact.specs.declared.ContactRead.{ContactRead}
-use Rattle.channel.specs.Channel.{channelAnswer}
-use Rattle.channel.specs.declared.ChannelRead.{ChannelRead}
+use Rattle.channel_reader.specs.Reading.{channelAnswer}
+use Rattle.channel_reader.specs.declared.ChannelRead.{ChannelRead}
 use Rattle.layout.specs.Places.{contactCount, channelCount, bankCount, contactPlace, channelPlace, countsOf}
 use Rattle.layout.specs.Banks.{bankPlace, entryCount}
-use Rattle.codeplug.specs.File.{fileRule}
+use Rattle.validation.specs.File.{fileRule}
 use Rattle.codeplug.specs.declared.Header.{Header}
 use Rattle.codeplug.specs.declared.HeaderRead.{HeaderRead}
 use Rattle.codeplug.specs.declared.Bank.{Bank}

@@ -2,6 +2,8 @@
 use crate::read::place;
 use entries::EntryStep;
 use fields::rule::Verdict;
+use format::sizes::BANK_HEAD_SIZE;
+use format::sizes::ENTRY_SIZE;
 use layout::banks::entry_count;
 use layout::banks::offset_leads;
 use layout::places::bank_count;
@@ -20,7 +22,7 @@ pub(crate) fn entries_of(verdict: Verdict, f: &[u8], p: usize) -> &[u8]
     if let Verdict::Refused(_, _) = verdict {
         return &f[..0];
     }
-    lend(f, p + 34, entry_count(f, p) * 2)
+    lend(f, p + BANK_HEAD_SIZE, entry_count(f, p) * ENTRY_SIZE)
 }
 
 // Why bank n has no entries to read: the file's refusal, then 33.

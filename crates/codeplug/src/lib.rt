@@ -1,22 +1,10 @@
-// The codeplug file: judged as a whole, and its parts read (document 01, "The file").
+// The codeplug file's parts, read (document 01, "The file").
 pub mod bank_entries; // bank_entries.rt: the entries of bank n
-pub mod judge; // judge.rt: the judge of the file
 pub mod once; // once.rt: records of a file that was judged before
 pub mod read; // read.rt: the header, contact n, channel n and bank n of a file
-pub mod records; // records.rt: the judge of the contacts and the channels
-mod whole; // whole.rt: whether all contacts and all channels are good
 
 use fields::rule::Verdict;
 use layout::Counts;
-
-// The longest file.
-pub const MAX_LENGTH: usize = 1_048_576;
-
-// The judge's answer.
-pub enum Judged {
-    Accepted(Counts),
-    Refused(u8, usize),
-}
 
 // The texts stand as in the file: a text, then zeros.
 pub struct Header {

@@ -2,13 +2,14 @@
 use crate::BankRead;
 use crate::bank_entries::entries_of;
 use crate::read::bank_answer;
-use crate::records::channel_at;
-use crate::records::contact_at;
-use channel::ChannelRead;
+use channel_reader::ChannelRead;
 use contact::ContactRead;
-use fields::rule::NO_PLACE;
 use fields::rule::Verdict;
 use fields::rule::first;
+use format::refusals::NO_PLACE;
+use format::sizes::BANK_HEAD_SIZE;
+use format::sizes::CHANNEL_SIZE;
+use format::sizes::CONTACT_SIZE;
 use layout::banks::bank_head;
 use layout::banks::offset_at;
 use layout::banks::offset_leads;
@@ -19,6 +20,8 @@ use layout::places::contact_count;
 use layout::places::contact_place;
 use layout::places::lend;
 use layout::places::offset_place;
+use validation::records::channel_at;
+use validation::records::contact_at;
 ghost use mathlib.Core.Path.{_≡_};
 ghost use Rattle.codeplug.specs.Once.{contactOnce, channelOnce, bankOnceRule, bankOnce, entriesOnce};
 
@@ -29,17 +32,17 @@ pub fn contact(f: &[u8], n: usize) -> ContactRead
         return contact::read::answer(Verdict::Refused(NO_PLACE, 0), f);
     }
     let p = contact_place(n);
-    contact::read::answer(contact_at(f, p), lend(f, p, 39))
+    contact::read::answer(contact_at(f, p), lend(f, p, CONTACT_SIZE))
 }
 
 pub fn channel(f: &[u8], n: usize) -> ChannelRead
     ensures { λ r. ⌜ r ≡ channelOnce (now (f .entry)) n ⌝ }
 {
     if channel_count(f) <= n {
-        return channel::read::answer(Verdict::Refused(NO_PLACE, 0), f);
+        return channel_reader::answer(Verdict::Refused(NO_PLACE, 0), f);
     }
     let p = channel_place(f, n);
-    channel::read::answer(channel_at(f, p), lend(f, p, 90))
+    channel_reader::answer(channel_at(f, p), lend(f, p, CHANNEL_SIZE))
 }
 
 fn bank_verdict(f: &[u8], n: usize) -> Verdict
@@ -59,7 +62,10 @@ pub fn bank(f: &[u8], n: usize) -> BankRead
     if let Verdict::Refused(_, _) = verdict {
         return bank_answer(verdict, f);
     }
-    bank_answer(verdict, lend(f, offset_leads(f, offset_place(f, n)), 34))
+    bank_answer(
+        verdict,
+        lend(f, offset_leads(f, offset_place(f, n)), BANK_HEAD_SIZE),
+    )
 }
 
 // The bytes of bank n's entries; fewer than its entry count says where the file ends before.

@@ -3,16 +3,18 @@ use crate::Bank;
 use crate::BankRead;
 use crate::Header;
 use crate::HeaderRead;
-use crate::judge::verdict_on;
-use channel::ChannelRead;
+use channel_reader::ChannelRead;
 use contact::ContactRead;
 use fields::numbers::le16;
 use fields::numbers::le64;
 use fields::put::bytes32;
-use fields::rule::NO_PLACE;
 use fields::rule::Verdict;
 use fields::rule::first;
 use fields::rule::unless;
+use format::refusals::NO_PLACE;
+use format::sizes::BANK_HEAD_SIZE;
+use format::sizes::CHANNEL_SIZE;
+use format::sizes::CONTACT_SIZE;
 use layout::Counts;
 use layout::banks::offset_leads;
 use layout::places::bank_count;
@@ -23,10 +25,11 @@ use layout::places::contact_place;
 use layout::places::counts_of;
 use layout::places::lend;
 use layout::places::offset_place;
+use validation::judge::verdict_on;
 ghost use mathlib.Core.Path.{_≡_};
 ghost use Prim.Native.Nat.{_≤_, _<_};
 ghost use lib.ListN.{length};
-ghost use Rattle.codeplug.specs.File.{fileRule};
+ghost use Rattle.validation.specs.File.{fileRule};
 ghost use Rattle.codeplug.specs.Read.{headerOf, blankHeader, headerRead, placeRule, contactRead, channelRead, bankOf, blankBank, bankAnswer, bankRead};
 
 fn header_of(f: &[u8]) -> Header
@@ -87,7 +90,7 @@ pub fn contact(f: &[u8], n: usize) -> ContactRead
     if let Verdict::Refused(_, _) = verdict {
         return contact::read::answer(verdict, f);
     }
-    contact::read::answer(verdict, lend(f, contact_place(n), 39))
+    contact::read::answer(verdict, lend(f, contact_place(n), CONTACT_SIZE))
 }
 
 pub fn channel(f: &[u8], n: usize) -> ChannelRead
@@ -95,9 +98,9 @@ pub fn channel(f: &[u8], n: usize) -> ChannelRead
 {
     let verdict = place(f, n, channel_count(f));
     if let Verdict::Refused(_, _) = verdict {
-        return channel::read::answer(verdict, f);
+        return channel_reader::answer(verdict, f);
     }
-    channel::read::answer(verdict, lend(f, channel_place(f, n), 90))
+    channel_reader::answer(verdict, lend(f, channel_place(f, n), CHANNEL_SIZE))
 }
 
 fn bank_of(s: &[u8]) -> Bank
@@ -144,5 +147,8 @@ pub fn bank(f: &[u8], n: usize) -> BankRead
     if let Verdict::Refused(_, _) = verdict {
         return bank_answer(verdict, f);
     }
-    bank_answer(verdict, lend(f, offset_leads(f, offset_place(f, n)), 34))
+    bank_answer(
+        verdict,
+        lend(f, offset_leads(f, offset_place(f, n)), BANK_HEAD_SIZE),
+    )
 }

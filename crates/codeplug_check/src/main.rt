@@ -1,8 +1,8 @@
 // Judges the codeplug on standard input and prints one line: "ok", with the counts of contacts, channels and banks, or the refusal
 // and its place. It takes at most 65,536 bytes.
-use codeplug::Judged;
 use libc::STDIN_FILENO;
 use libc::STDOUT_FILENO;
+use validation::Judged;
 
 fn print_refusal(number: u8, place: usize) {
     io::write_all(STDOUT_FILENO, b"refused ");
@@ -43,5 +43,5 @@ fn main() {
         print_refusal(1, 0);
         return;
     }
-    print_judgement(codeplug::judge::judge(&buffer[..n]));
+    print_judgement(validation::judge::judge(&buffer[..n]));
 }

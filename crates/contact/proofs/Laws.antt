@@ -12,13 +12,13 @@ use lib.Dec.{eqb, leb}
 use lib.ListN.{length, getD, take, drop, drop-of-length-le, length-append, length-take}
 use lib.Seq.{getD-take, drop-drop, drop-at, take-at}
 use Rattle.fields.specs.Bytes.{part, big, zeros, over, littleBytes, bigBytes}
-use Rattle.fields.specs.Text.{textOk, givenOk, padded}
+use Rattle.text.specs.Text.{textOk, givenOk, padded}
 use Rattle.fields.specs.Rule.{fieldOf}
 use Rattle.fields.specs.declared.rule.Verdict.the-variants.{Good}
 use Rattle.fields.proofs.Laws.{then-good, both-good, unless-good, unless-passes, field-good, field-passes}
 use Rattle.fields.proofs.Laws.{part-part, over-zero, drop-zeros, zeros-append, length-zeros, over-then}
 use Rattle.fields.proofs.Laws.{Long, long-byte, long-append, long-little, long-big}
-use Rattle.fields.proofs.TextLaws.{length-padded, givenOk-length}
+use Rattle.text.proofs.Laws.{length-padded, givenOk-length}
 use Rattle.bits.specs.Packed.{choiceOk, choiceByte, choiceGood}
 use Rattle.m17.specs.Address.{addressOk, addressNumber, addressGood}
 use Rattle.m17.specs.declared.Address.{Address}

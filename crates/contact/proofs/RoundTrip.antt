@@ -10,13 +10,13 @@ use native.Mathlib.Omega.{arith}
 use lib.Dec.{eqb}
 use lib.ListN.{length, getD, take}
 use Rattle.fields.specs.Bytes.{part, num, big, zeros, littleBytes, bigBytes}
-use Rattle.fields.specs.Text.{textOk, textOf, givenOk, padded}
+use Rattle.text.specs.Text.{textOk, textOf, givenOk, padded}
 use Rattle.fields.specs.declared.rule.Verdict.the-variants.{Good}
 use Rattle.fields.proofs.Laws.{AllBytes, bytes-cons, bytes-nil, bytes-append, bytes-zeros, bytes-part, bytes-littleBytes, bytes-bigBytes}
 use Rattle.fields.proofs.Laws.{Long, part-front, part-skip, getD-skip, num-skip, part-all, part-add, part-cons, length-part}
 use Rattle.fields.proofs.Laws.{long-little, num-front, num-lt, length-bigBytes, big-bigBytes, littleBytes-num, bigBytes-big, unless-passes}
-use Rattle.fields.proofs.TextLaws.{length-padded, givenOk-length, givenOk-plain, textOk-padded, textOf-padded}
-use Rattle.fields.proofs.TextLaws.{given-textOf, padded-textOf, plainText-bytes}
+use Rattle.text.proofs.Laws.{length-padded, givenOk-length, givenOk-plain, textOk-padded, textOf-padded}
+use Rattle.text.proofs.Laws.{given-textOf, padded-textOf, plainText-bytes}
 use Rattle.bits.specs.Packed.{choiceOf, choiceByte}
 use Rattle.bits.proofs.Laws.{choice-returns, choice-ok, choiceByte-of, choiceGood-of, choiceByte-lt}
 use Rattle.m17.specs.Address.{addressFor, addressNumber, addressGood}

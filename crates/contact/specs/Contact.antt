@@ -6,7 +6,7 @@ use mathlib.Core.List.{List, [], _∷_, _++_}
 use lib.ListN.{length, getD}
 use lib.Dec.{leb, eqb}
 use Rattle.fields.specs.Bytes.{part, num, big, littleBytes, bigBytes, zeros}
-use Rattle.fields.specs.Text.{textOk, givenOk, padded}
+use Rattle.text.specs.Text.{textOk, givenOk, padded}
 use Rattle.fields.specs.Rule.{_then_, unless, field, inside, written}
 use Rattle.fields.specs.declared.rule.Verdict.{Verdict}
 use Rattle.fields.specs.declared.rule.Verdict.the-variants.{Good, Refused}

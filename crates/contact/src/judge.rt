@@ -1,14 +1,15 @@
 // The first bad field of a contact, its bytes s standing at base.
 use fields::numbers::be48;
 use fields::numbers::byte_at;
-use fields::rule::ADDRESS;
-use fields::rule::CUT;
-use fields::rule::MODE;
-use fields::rule::VALUE;
 use fields::rule::Verdict;
 use fields::rule::field;
 use fields::rule::first;
-use fields::text::text_field;
+use format::refusals::ADDRESS;
+use format::refusals::CUT;
+use format::refusals::MODE;
+use format::refusals::VALUE;
+use format::sizes::CONTACT_SIZE;
+use text::text_field;
 ghost use mathlib.Core.Path.{_≡_};
 ghost use mathlib.Core.Bool.{cond};
 ghost use Prim.Native.Nat.{_<_, _^_};
@@ -37,7 +38,7 @@ fn judge_m17(s: &[u8], base: usize) -> Verdict
     ensures { λ r. ⌜ r ≡ m17Rule (now (s .entry)) base ⌝ }
 {
     let left = s.len();
-    if left < 39 {
+    if left < CONTACT_SIZE {
         return Verdict::Refused(CUT, base + 33);
     }
     field(left, base, 33, 6, ADDRESS, m17::address_ok(be48(s, 33)))

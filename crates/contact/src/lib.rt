@@ -8,8 +8,6 @@ pub mod write; // write.rt: a contact's value to its bytes
 use fields::rule::Verdict;
 use m17::Address;
 
-pub const CONTACT_LENGTH: usize = 39;
-
 pub const DMR: u8 = 1;
 
 pub const M17: u8 = 2;

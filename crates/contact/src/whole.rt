@@ -1,7 +1,7 @@
 // Whether a whole contact is good: what `judge` answers, but for number and place. Nothing branches on the record's bytes.
 use fields::numbers::be48;
 use fields::rule::pick;
-use fields::text::text_ok;
+use text::text_ok;
 ghost use mathlib.Core.Path.{_≡_};
 ghost use Prim.Native.Nat.{ℕ};
 ghost use lib.ListN.{length};

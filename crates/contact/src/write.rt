@@ -1,26 +1,26 @@
 // A contact's value to its bytes: 25, then the fields in order; a refusal changes nothing.
-use crate::CONTACT_LENGTH;
 use crate::ContactInfo;
 use crate::settings_byte::choice_of;
 use fields::put::put;
 use fields::put::put_be48;
 use fields::put::put_byte;
 use fields::put::put_le32;
-use fields::rule::ADDRESS;
-use fields::rule::SHORT_BUFFER;
-use fields::rule::TEXT;
-use fields::rule::VALUE;
 use fields::rule::Verdict;
 use fields::rule::first;
 use fields::rule::unless;
-use fields::text::given_ok;
+use format::refusals::ADDRESS;
+use format::refusals::SHORT_BUFFER;
+use format::refusals::TEXT;
+use format::refusals::VALUE;
+use format::sizes::CONTACT_SIZE;
+use text::given_ok;
 ghost use mathlib.Core.Path.{_≡_};
 ghost use mathlib.Core.Bool.{true};
 ghost use mathlib.Core.List.{_++_};
 ghost use Prim.Native.Nat.{_≤_};
 ghost use lib.ListN.{length, take, drop};
 ghost use Rattle.fields.specs.Bytes.{zeros};
-ghost use Rattle.fields.specs.Text.{givenOk, padded};
+ghost use Rattle.text.specs.Text.{givenOk, padded};
 ghost use Rattle.contact.specs.Contact.{infoGiven, contactGiven, contactBytes, contactWritten, infoBytes};
 
 fn info_given(info: ContactInfo) -> Verdict
@@ -36,7 +36,7 @@ fn info_given(info: ContactInfo) -> Verdict
 pub fn given(room: usize, name: &[u8], info: ContactInfo) -> Verdict
     ensures { λ r. ⌜ r ≡ contactGiven room (now (name .entry)) info ⌝ }
 {
-    let short = unless(CONTACT_LENGTH <= room, SHORT_BUFFER, 0);
+    let short = unless(CONTACT_SIZE <= room, SHORT_BUFFER, 0);
     let text = unless(given_ok(name), TEXT, 0);
     first(short, first(text, info_given(info)))
 }

@@ -1,21 +1,31 @@
-// The words of a line.
-use crate::case::part;
+// A line, by the form of its answer.
+use cases::case::part;
+use cases::case::rest;
+use cases::values::NONE;
 use fields::numbers::wide_at;
-use fields::rule::Verdict;
 use libc::STDOUT_FILENO;
+use text::text_length;
+ghost use Prim.Native.Nat.{_≤_};
 
-pub(crate) fn word(s: &[u8]) {
+fn word(s: &[u8]) {
     io::write_all(STDOUT_FILENO, s);
 }
 
-// A number after what says which.
-pub(crate) fn number(label: &[u8], n: u64) {
-    word(label);
-    io::print_decimal(STDOUT_FILENO, n);
+fn number(n: u64) {
+    if n < NONE {
+        io::print_decimal(STDOUT_FILENO, n);
+        return;
+    }
+    if n == NONE {
+        word(b"none");
+        return;
+    }
+    word(b"-");
+    io::print_decimal(STDOUT_FILENO, 18446744073709551615 - n + 1);
 }
 
 // Two digits for each byte, or a hyphen for no bytes.
-pub(crate) fn bytes(s: &[u8]) {
+fn bytes(s: &[u8]) {
     if s.len() == 0 {
         word(b"-");
         return;
@@ -27,33 +37,86 @@ pub(crate) fn bytes(s: &[u8]) {
     }
 }
 
-// How many bytes stand before the first zero.
-fn text_length(s: &[u8]) -> usize {
-    let mut i = 0;
-    while i < s.len() && s[i] != 0 {
-        i += 1;
-    }
-    i
-}
-
-// A text field's bytes without its padding, after what says which.
-pub(crate) fn text(label: &[u8], field: &[u8]) {
-    word(label);
+// A text field's bytes without its padding.
+fn text(field: &[u8]) {
     bytes(part(field, 0, text_length(field)));
 }
 
-pub(crate) fn refusal(n: u8, place: usize) {
-    number(b"refused ", n as u64);
-    number(b" at ", place as u64);
+fn number_at(numbers: &[u64], k: usize) -> u64 {
+    if k < numbers.len() { numbers[k] } else { NONE }
 }
 
-// What a writer answered, and its whole buffer afterwards.
-pub(crate) fn written(verdict: Verdict, out: &[u8]) {
-    match verdict {
-        Verdict::Good => word(b"wrote"),
-        Verdict::Refused(n, p) => refusal(n, p),
+// Prints what a sign of a form stands for, and answers how many numbers that took.
+fn sign(c: u8, numbers: &[u64], k: usize, s: &[u8]) -> usize
+    ensures { λ r. ⌜ r ≤ 1 ⌝ }
+{
+    if c == b'#' {
+        number(number_at(numbers, k));
+        return 1;
     }
-    word(b" ");
-    bytes(out);
-    word(b"\n");
+    if c == b'*' {
+        bytes(s);
+        return 0;
+    }
+    if c == b'$' {
+        text(part(s, 0, 32));
+        return 0;
+    }
+    if c == b'%' {
+        text(rest(s, 32));
+        return 0;
+    }
+    let other = [c];
+    word(&other);
+    0
+}
+
+// The same where the sign is in the form that is printed; elsewhere nothing is.
+fn sign_if(here: bool, c: u8, numbers: &[u64], k: usize, s: &[u8]) -> usize
+    ensures { λ r. ⌜ r ≤ 1 ⌝ }
+{
+    if here { sign(c, numbers, k, s) } else { 0 }
+}
+
+// 1 where a form ends, else 0.
+fn ends(c: u8) -> usize
+    ensures { λ r. ⌜ r ≤ 1 ⌝ }
+{
+    if c == b'\n' { 1 } else { 0 }
+}
+
+// Prints the form of the given number among forms, one to a line.
+fn one_of(forms: &[u8], form: usize, numbers: &[u64], s: &[u8]) {
+    let mut line = 0;
+    let mut k = 0;
+    let mut i = 0;
+    while i < forms.len() {
+        k += sign_if(line == form, forms[i], numbers, k, s);
+        line += ends(forms[i]);
+        i += 1;
+    }
+}
+
+// The forms of answers' lines, in the order of their numbers: `#` stands for the next number, `*` for all bytes, `$` and `%` for the first
+// and second text field in them.
+pub(crate) fn line(form: u8, numbers: &[u64], s: &[u8]) {
+    one_of(
+        b"ok # # #
+refused # at #
+wrote *
+refused # at # *
+number #
+text *
+broadcast *
+dmr name=$ id=# type=# rxtone=#
+m17 name=$ callsign=#
+m17 name=$ broadcast
+fm bandwidth=# rxonly=# power=# rx=# tx=# scan=# group=# name=$ desc=% lat=# latfrac=# lon=# lonfrac=# alt=# rxtone=#:#:# txtone=#:#:#
+dmr bandwidth=# rxonly=# power=# rx=# tx=# scan=# group=# name=$ desc=% lat=# latfrac=# lon=# lonfrac=# alt=# rxcolour=# txcolour=# slot=# contact=#
+m17 bandwidth=# rxonly=# power=# rx=# tx=# scan=# group=# name=$ desc=% lat=# latfrac=# lon=# lonfrac=# alt=# rxcan=# txcan=# operation=# encryption=# position=# contact=#
+",
+        form as usize,
+        numbers,
+        s,
+    );
 }

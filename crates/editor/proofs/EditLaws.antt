@@ -13,9 +13,9 @@ use Rattle.fields.specs.Bytes.{part}
 use Rattle.fields.specs.Rule.{_then_, unless}
 use Rattle.fields.specs.declared.rule.Verdict.{Verdict}
 use Rattle.fields.specs.declared.rule.Verdict.the-variants.{Good, Refused}
-use Rattle.fields.proofs.Laws.{AllBytes, then-good, good-then, then-refused, unless-good, part-part, littleBytes-little}
-use Rattle.codeplug.specs.File.{fileRule}
-use Rattle.codeplug.proofs.Laws.{file-good}
+use Rattle.fields.proofs.Laws.{AllBytes, bytes-take, then-good, good-then, then-refused, unless-good, part-part, littleBytes-little}
+use Rattle.validation.specs.File.{fileRule}
+use Rattle.validation.proofs.Laws.{file-good}
 use Rattle.journal.specs.Entry.{Entries, whole, broken, entriesOf, entrySize, historyBytes}
 use Rattle.journal.specs.History.{fittingRun, recorded}
 use Rattle.journal.specs.Scan.{numberOfEntries}
@@ -28,20 +28,23 @@ use Rattle.journal.specs.declared.scan.Run.{Run}
 use Rattle.journal.specs.declared.scan.HistoryRead.the-variants as read
 use Rattle.journal.proofs.ChangeLaws.{tail-left, tail-right, length-taken}
 use Rattle.journal.proofs.RecordLaws.{span-size, span-entry, sound-entryOf, span-old}
-use Rattle.change.specs.declared.Plan.{Plan}
-use Rattle.change.specs.Plan.{planned}
-use Rattle.change.specs.Fits.{Fits}
+use Rattle.plan.specs.declared.Plan.{Plan}
+use Rattle.plan.specs.Plan.{planned}
+use Rattle.plan.specs.Fits.{Fits}
 use Rattle.plug.specs.Plug.{plugOf}
+use Rattle.plug.specs.Laid.{Laid}
 use Rattle.plug.specs.declared.Kind.{Kind}
 use Rattle.plug.specs.declared.KindRead.{KindRead}
 use Rattle.plug.specs.declared.KindRead.the-variants.{Known, NoKind}
-use Rattle.plug.specs.Edits.{kindOf, recordLength, placeOk, countOk}
-use Rattle.edit.specs.Result.{result}
-use Rattle.edit.specs.Planned.{Makes}
-use Rattle.edit.specs.Setting.{Asked, refusesKnown, refusesKind, refuses, appliedKind, applied, editing}
-use Rattle.editor.specs.Calls.{lent, left}
+use Rattle.plug.specs.Kinds.{kindOf, recordLength}
+use Rattle.plug.specs.EditRules.{placeOk, countOk}
+use Rattle.edits.specs.Result.{result}
+use Rattle.edits.proofs.Accepted.{laid}
+use Rattle.edit_plan.specs.Planned.{Makes}
+use Rattle.edits.specs.Setting.{Asked, refusesKnown, refusesKind, refuses, appliedKind, applied, editing}
+use Rattle.preconditions.specs.Calls.{lent, left}
 use Rattle.editor.specs.Edit.{committed, knownRule, knownOutcome, knownStep}
-use Rattle.editor.proofs.StandLaws.{stand-inside, stand-entries}
+use Rattle.preconditions.proofs.StandLaws.{stand-inside, stand-entries}
 
 -- ---- buffers that stand
 
@@ -123,6 +126,9 @@ pub stand-accepted : (d : List ℕ) (len : ℕ) (h : List ℕ) (used : ℕ) → 
     → fileRule (take len d) ≡ Good
 unfolding fileOf
 stand-accepted d len h used fine = stand-file (lent d len h used) fine
+
+pub stand-laid : (d : List ℕ) (len : ℕ) (h : List ℕ) (used : ℕ) → buffersRule editing (lent d len h used) ≡ Good → AllBytes d → Laid (take len d)
+stand-laid d len h used fine b = laid (take len d) (stand-accepted d len h used fine) (bytes-take len d b)
 
 pub stand-short : (d : List ℕ) (len : ℕ) (h : List ℕ) (used : ℕ) → buffersRule editing (lent d len h used) ≡ Good → length (take len d) ≤ 1_048_576
 stand-short d len h used fine = file-good (take len d) (stand-accepted d len h used fine) .short

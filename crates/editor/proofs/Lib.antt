@@ -1,5 +1,2 @@
--- Laws of the calls.
-pub mod ExchangeLaws
-pub mod StandLaws
-pub mod UndoLaws
+-- Laws of an edit's steps.
 pub mod EditLaws

@@ -1,17 +1,31 @@
 -- The steps of an edit. No promise to a caller rests on these: `edit` is told by `editStep` alone.
-use Prim.Native.Nat.{ℕ}
+use Prim.Native.Nat.{ℕ, _≤_}
+use mathlib.Core.Path.{_≡_}
 use mathlib.Core.List.{List}
-use lib.ListN.{length}
+use lib.ListN.{length, take}
 use Rattle.fields.specs.Rule.{_then_}
 use Rattle.fields.specs.declared.rule.Verdict.{Verdict}
 use Rattle.fields.specs.declared.rule.Verdict.the-variants.{Good, Refused}
 use Rattle.journal.specs.Entry.{aloneRule}
 use Rattle.journal.specs.Change.{entryOf}
-use Rattle.journal.specs.Span.{recordedIn}
-use Rattle.journal.specs.Machine.{State, Outcome, fileOf, historyOf, refused, done}
+use Rattle.journal.specs.Span.{spanOf, spanSize, recordedIn}
+use Rattle.journal.specs.declared.recording.Span.{Span}
+use Rattle.journal.specs.Machine.{State, Outcome, fileOf, historyOf, buffersRule, refused, done}
 use Rattle.plug.specs.declared.Kind.{Kind}
-use Rattle.edit.specs.Result.{result}
-use Rattle.edit.specs.Setting.{refusesKnown}
+use Rattle.edits.specs.Result.{result}
+use Rattle.edits.specs.Setting.{refusesKnown, editing}
+use Rattle.plan.specs.declared.Plan.{Plan}
+use Rattle.plan.specs.Plan.{planned}
+use Rattle.plan.specs.Fits.{Fits}
+use Rattle.preconditions.specs.Calls.{lent}
+
+-- buffers that stand, a plan for the room's content whose file fits the room, and the place and lengths of that change, whose entry fits
+-- the history
+abbrev pub Committable : List ℕ → ℕ → List ℕ → ℕ → Plan → Span → List ℕ → Type 0
+Committable room len history used plan s bytes =
+    ((buffersRule editing (lent room len history used) ≡ Good) × (Fits plan bytes (take len room)))
+    × (((length (planned plan bytes (take len room)) ≤ length room) × (length (planned plan bytes (take len room)) ≤ 1_048_576))
+    × ((s ≡ spanOf (entryOf (take len room) (planned plan bytes (take len room)))) × (spanSize s ≤ length history)))
 
 -- the room holds s, and the history the entry of that change first
 unfoldable pub committed : List ℕ → State → Outcome

@@ -1,5 +1,2 @@
--- The calls on two lent buffers.
-pub mod Calls
--- how the code goes about it
-pub mod Undo
+-- How the code of an edit goes about it.
 pub mod Edit

@@ -1,5 +1,94 @@
-// The calls on two lent buffers, a codeplug's and its history's (document 01, "The twelve edits", "The history").
-pub mod editing; // editing.rt: an edit made and recorded
-mod revert; // revert.rt: an entry's bytes put back, judged, and taken out again where the result is refused
-mod standing; // standing.rt: what both calls judge first (30, the codeplug's own, 31)
-pub mod undo; // undo.rt: the last edit taken back
+// An edit made in place, and its entry recorded.
+use edit_check::refusal::refusal;
+use edit_plan::plan_of;
+use fields::rule::Verdict;
+use format::refusals::NO_EDIT;
+use format::refusals::NO_HISTORY;
+use journal::answer::Answer;
+use journal::recording::Span;
+use journal::recording::entry_size;
+use journal::recording::record_entry;
+use plan::Plan;
+use plan_apply::make;
+use plan_span::span;
+use plug::Kind;
+use plug::KindRead;
+use plug::kind_of;
+use preconditions::standing;
+ghost use mathlib.Core.Path.{_≡_};
+ghost use lib.ListN.{take};
+ghost use Rattle.fields.specs.declared.rule.Verdict.the-variants.{Good};
+ghost use Rattle.journal.specs.Machine.{buffersRule, editStep};
+ghost use Rattle.plan.specs.Plan.{planned};
+ghost use Rattle.edits.specs.Setting.{editing};
+ghost use Rattle.preconditions.specs.Calls.{lent, left, asked};
+ghost use Rattle.editor.specs.Edit.{Committable, committed, knownStep};
+
+// Records a change whose place and lengths are s, then makes it.
+fn commit(
+    room: &mut [u8],
+    len: usize,
+    history: &mut [u8],
+    used: usize,
+    plan: Plan,
+    s: Span,
+    bytes: &[u8],
+) -> Answer
+    requires { ⌜ Committable (now room) len (now history) used plan s (now bytes) ⌝ }
+    ensures { λ r. ⌜ left r (now (room .exit)) (now (history .exit)) ≡ committed (planned plan (now (bytes .entry)) (take len (now (room .entry)))) (lent (now (room .entry)) len (now (history .entry)) used) ⌝ }
+{
+    let from = s.place;
+    let taken = s.taken;
+    let new = len - taken + s.put;
+    let run = record_entry(history, used, s, &room[from..from + taken]);
+    make(room, len, plan, bytes);
+    Answer::Done(new, run.bytes, run.entries)
+}
+
+// An edit of a known kind.
+fn edit_known(
+    room: &mut [u8],
+    len: usize,
+    history: &mut [u8],
+    used: usize,
+    k: Kind,
+    i: usize,
+    j: usize,
+    bytes: &[u8],
+) -> Answer
+    requires { ⌜ buffersRule editing (lent (now room) len (now history) used) ≡ Good ⌝ }
+    ensures { λ r. ⌜ left r (now (room .exit)) (now (history .exit)) ≡ knownStep k i j (now (bytes .entry)) (lent (now (room .entry)) len (now (history .entry)) used) ⌝ }
+{
+    let size = room.len();
+    if let Verdict::Refused(n, p) = refusal(&room[..len], size, k, i, j, bytes) {
+        return Answer::Refused(n, p);
+    }
+    let plan = plan_of(&room[..len], k, i, j);
+    let s = span(&room[..len], plan, bytes);
+    if history.len() < entry_size(s) {
+        return Answer::Refused(NO_HISTORY, 0);
+    }
+    commit(room, len, history, used, plan, s, bytes)
+}
+
+// Makes an edit in both buffers, or refuses it and leaves them as lent.
+pub fn edit(
+    room: &mut [u8],
+    len: usize,
+    history: &mut [u8],
+    used: usize,
+    kind: usize,
+    first: usize,
+    second: usize,
+    bytes: &[u8],
+) -> Answer
+    ensures { λ r. ⌜ left r (now (room .exit)) (now (history .exit)) ≡ editStep editing (asked kind first second (now (bytes .entry))) (lent (now (room .entry)) len (now (history .entry)) used) ⌝ }
+{
+    if let Verdict::Refused(n, p) = standing(room, len, history, used) {
+        return Answer::Refused(n, p);
+    }
+    match kind_of(kind) {
+        KindRead::NoKind => Answer::Refused(NO_EDIT, 0),
+        KindRead::Known(k) => edit_known(room, len, history, used, k, first, second, bytes),
+    }
+}

@@ -1,6 +1,6 @@
 // Bank entries, one at a time, each call going on from the last: by a place, and by a walker that holds the bytes and the place.
 use fields::numbers::le16;
-use fields::rule::NO_PLACE;
+use format::refusals::NO_PLACE;
 ghost use mathlib.Core.Path.{_≡_};
 ghost use Rattle.entries.specs.Entry.{entryStep};
 

@@ -9,7 +9,7 @@ use Rattle.fields.specs.Rule.{fieldOf, unless, _then_}
 use Rattle.fields.specs.declared.rule.Verdict.{Verdict}
 use Rattle.fields.specs.declared.rule.Verdict.the-variants as verdict
 use Rattle.fields.specs.Bytes.{little, littleBytes}
-use Rattle.channel.specs.Channel.{fmRule}
+use Rattle.channel.specs.Rule.{fmRule}
 use Rattle.layout.specs.Places.{contactCount, channelCount, bankCount, contactPlace, channelPlace, offsetPlace, banksPlace}
 use Rattle.moves.specs.Common.{commonStart, commonEnd}
 use Rattle.journal.specs.Number.{numberBytes, groups, numberAt, groupsAt, atMost, withGroup}
@@ -17,9 +17,10 @@ use Rattle.journal.specs.Entry.{entryBytes, entriesOf, entriesUpTo, frontOf, wi
 use Rattle.journal.specs.Change.{entryOf, tailOf}
 use Rattle.journal.specs.Machine.{wholeRule}
 use Rattle.plug.specs.Plug.{plugOf, plugBytes, joined, bankBytes, pairs, offsetsFrom, countBytes, blocks, banksAt}
-use Rattle.plug.specs.Edits.{kindOf, edited, insertAt, withBanks, withPreamble}
-use Rattle.edit.specs.Result.{result}
-use Rattle.edit.specs.Setting.{Asked, applied, appliedKind}
+use Rattle.plug.specs.Kinds.{kindOf}
+use Rattle.plug.specs.Edits.{edited, insertAt, withBanks, withPreamble}
+use Rattle.edits.specs.Result.{result}
+use Rattle.edits.specs.Setting.{Asked, applied, appliedKind}
 use Rattle.m17.specs.Address.{encoding, decoding, addressOf, digitOf, firstForeign, foreign, endsInSpace, within, isCallsign, textFor, textUpTo, charOf}
 use Rattle.m17.specs.declared.Encoded.{Encoded}
 use Rattle.m17.specs.declared.Encoded.the-variants as encoded

@@ -754,3 +754,7 @@ pub big-six : (s : List ℕ) (k a b c d e f : ℕ) → k + 6 ≤ length s → a 
     → ((a * 256 + b) * 65536 + (c * 256 + d)) * 65536 + (e * 256 + f) ≡ big (part s k 6)
 unfolding bigFrom
 big-six s k a b c d e f h ea eb ec ed ee ef = rw (six-bytes s k h, ea, eb, ec, ed, ee, ef) (omega arith)
+
+-- s written over the front of zeros
+pub over-fresh : (s : List ℕ) (m n : ℕ) → length s ≡ m → over (zeros (m + n)) 0 s ≡ s ++ zeros n
+over-fresh s m n e = over-zero (zeros (m + n)) s ∙ rw (e, drop-zeros m n)

@@ -1,3 +1,3 @@
 -- Laws of the definitions, for the proofs here and for the record crates.
 pub mod Laws
-pub mod TextLaws
+pub mod TableLaws

@@ -1,4 +1,5 @@
 // The first bad field answers (document 01, "The refusals, by number").
+use format::refusals::CUT;
 ghost use mathlib.Core.Path.{_≡_};
 ghost use mathlib.Core.Bool.{cond};
 ghost use Prim.Native.Nat.{_+_, _<_, _^_};
@@ -9,35 +10,6 @@ pub enum Verdict {
     Good,
     Refused(u8, usize),
 }
-
-// The refusals that reading gives.
-pub const TOO_LONG: u8 = 1;
-
-pub const CUT: u8 = 2;
-
-pub const MAGIC: u8 = 3;
-
-pub const VERSION: u8 = 4;
-
-pub const TEXT: u8 = 5;
-
-pub const MODE: u8 = 6;
-
-pub const VALUE: u8 = 7;
-
-pub const ADDRESS: u8 = 8;
-
-pub const CONTACT_INDEX: u8 = 9;
-
-pub const BANK_OFFSET: u8 = 10;
-
-pub const BANK_ENTRY: u8 = 11;
-
-pub const TRAILING: u8 = 12;
-// A writer's output buffer is shorter than the record.
-pub const SHORT_BUFFER: u8 = 25;
-// No such place.
-pub const NO_PLACE: u8 = 33;
 
 // a where the test holds, else b; without a branch.
 pub fn pick(test: bool, a: bool, b: bool) -> bool

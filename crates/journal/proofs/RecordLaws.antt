@@ -15,7 +15,7 @@ use Rattle.journal.specs.History.{fittingRun, recorded}
 use Rattle.journal.specs.Scan.{numberOfEntries, runOf}
 use Rattle.journal.specs.Change.{tailOf, entryOf}
 use Rattle.journal.specs.Machine.{holding}
-use Rattle.journal.specs.Span.{spanOf, entryFrom, Sound, spanSize, recordedIn}
+use Rattle.journal.specs.Span.{spanOf, entryFrom, Sound, spanSize, recordedIn, Reserved}
 use Rattle.journal.specs.declared.recording.Span.{Span}
 use Rattle.journal.specs.declared.scan.Run.{Run}
 use Rattle.journal.specs.declared.scan.HistoryRead.the-variants as read
@@ -91,24 +91,26 @@ entry-written d o₁ o₂ o₃ o₄ s old a b c f₁ f₂ f₃ f₄ ea eb ec h =
     let e₄ : o₄ ≡ over d 0 (((p ++ k) ++ m) ++ old) = f₄ ∙ rw e₃ (over-over d 0 ((p ++ k) ++ m) c old l z) in
     e₄ ∙ rw h (simp append-assoc)
 
--- ---- an entry put before a run
+-- ---- room made before a run
 
--- the run is moved up, the entry put in front of it, and zeros behind it
-pub entry-first : (d o q r : List ℕ) (used n size b past : ℕ) (e : List ℕ) → o ≡ over d (0 + size) (part d 0 n) → q ≡ over o 0 e
-    → r ≡ over q b (zeros past) → length e ≡ size → b ≡ size + n → past ≡ used - b → b ≤ length d
-    → r ≡ holding d used (e ++ take n d)
+-- the run is moved up, and zeros put behind it
+pub reserved : (d o q : List ℕ) (used n size b past : ℕ) → o ≡ over d (0 + size) (part d 0 n) → q ≡ over o b (zeros past)
+    → b ≡ size + n → past ≡ used - b → b ≤ length d → Reserved d used n size q
 unfolding holding
-entry-first d o q r used n size b past e f g h es bs ps fits =
-    let t = take n d in
-    let z = zeros (used - b) in
-    let w = e ++ t in
-    let lt : length t ≡ n = length-part d 0 n (omega arith) in
-    let lw : length w ≡ b = length-append e t ∙ omega arith in
-    let lz : length z ≡ used - b = length-zeros (used - b) in
-    let q₁ : q ≡ over d 0 w = g ∙ rw f (over-ahead d 0 e (0 + size) t (omega arith) (omega arith)) in
-    let r₁ : r ≡ over d 0 (w ++ z) = h ∙ rw (q₁, ps) (over-over d 0 w b z (omega arith) (omega arith)) in
-    let m : length (w ++ z) ≡ max used b = length-append w z ∙ omega arith in
-    r₁ ∙ over-zero d (w ++ z) ∙ rw (m, lw) (append-assoc w z (drop (max used b) d))
+reserved d o q used n size b past f g bs ps fits = record { filled = fill }
+  where
+    fill : (e : List ℕ) → length e ≡ size → over q 0 e ≡ holding d used (e ++ take n d)
+    fill e es =
+        let t = take n d in
+        let z = zeros (used - b) in
+        let w = e ++ t in
+        let lt : length t ≡ n = length-part d 0 n (omega arith) in
+        let lw : length w ≡ b = length-append e t ∙ omega arith in
+        let lz : length z ≡ used - b = length-zeros (used - b) in
+        let q₁ : q ≡ over d (0 + size) (t ++ z) = g ∙ rw (f, ps) (over-over d (0 + size) t b z (omega arith) (omega arith)) in
+        let r₁ : over q 0 e ≡ over d 0 (e ++ (t ++ z)) = rw q₁ (over-ahead d 0 e (0 + size) (t ++ z) (omega arith) (omega arith)) in
+        let m : length (e ++ (t ++ z)) ≡ max used b = length-append e (t ++ z) ∙ omega (arith, length-append t z) in
+        r₁ ∙ over-zero d (e ++ (t ++ z)) ∙ rw (m, lw) (simp append-assoc)
 
 -- ---- the run that is kept, out of a buffer that holds a history
 

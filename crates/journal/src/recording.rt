@@ -8,15 +8,12 @@ use moves::block::clear;
 use moves::block::move_up;
 ghost use mathlib.Core.Path.{_≡_};
 ghost use Prim.Native.Nat.{_+_, _-_, _≤_};
-ghost use mathlib.Core.List.{_++_};
-ghost use lib.ListN.{length, take};
+ghost use lib.ListN.{length};
 ghost use Rattle.fields.specs.Bytes.{over};
 ghost use Rattle.journal.specs.Number.{numberBytes};
-ghost use Rattle.journal.specs.Entry.{entriesOf, entryBytes, historyBytes};
-ghost use Rattle.journal.specs.Scan.{numberOfEntries};
-ghost use Rattle.journal.specs.declared.scan.HistoryRead.the-variants.{Broken};
+ghost use Rattle.journal.specs.Entry.{entryBytes, historyBytes};
 ghost use Rattle.journal.specs.Machine.{holding};
-ghost use Rattle.journal.specs.Span.{Sound, spanSize, entryFrom, recordedIn};
+ghost use Rattle.journal.specs.Span.{Sound, spanSize, entryFrom, Reserved, Recordable, recordedOver, runHeld};
 
 // A change: k new bytes stand at p in place of m old ones.
 pub struct Span {
@@ -57,29 +54,29 @@ fn excess(a: usize, b: usize) -> usize
     a - b
 }
 
-// Puts an entry in front of the first n bytes of a history; what lies between the new and the old length is zeroed.
-fn put_first(d: &mut [u8], used: usize, n: usize, s: Span, old: &[u8])
-    requires { ⌜ ((Sound s × (length (now old) ≡ s .taken)) × (spanSize s + n ≤ length (now d))) × (used ≤ length (now d)) ⌝ }
-    ensures { λ _. ⌜ now (d .exit) ≡ holding (now (d .entry)) used (entryBytes (entryFrom s (now (old .entry))) ++ take n (now (d .entry))) ⌝ }
+// Reserves `size` bytes in front of the first n bytes of a history; what lies between the new and the old length is zeroed. The caller
+// fills them.
+fn reserve(d: &mut [u8], used: usize, n: usize, size: usize)
+    requires { ⌜ (size + n ≤ length (now d)) × (used ≤ length (now d)) ⌝ }
+    ensures { λ _. ⌜ Reserved (now (d .entry)) used n size (now (d .exit)) ⌝ }
 {
-    let size = entry_size(s);
     let bytes = size + n;
     let past = excess(used, bytes);
     move_up(d, 0, n, size);
-    write_entry(d, s, old);
     clear(d, bytes, past);
 }
 
 // Puts an entry first and keeps the longest run of earlier ones that still fits; what lies between the new and the old length is zeroed.
 pub fn record_entry(d: &mut [u8], used: usize, s: Span, old: &[u8]) -> Run
-    requires { ⌜ ((Sound s × (length (now old) ≡ s .taken)) × (spanSize s ≤ length (now d))) × ((used ≤ length (now d)) × (numberOfEntries (entriesOf (take used (now d))) ≡ Broken → ⊥)) ⌝ }
-    ensures history { λ _. ⌜ now (d .exit) ≡ holding (now (d .entry)) used (historyBytes (recordedIn (length (now (d .entry))) (entryFrom s (now (old .entry))) (entriesOf (take used (now (d .entry)))))) ⌝ }
-    ensures left { λ r. ⌜ r ≡ record { bytes = length (historyBytes (recordedIn (length (now (d .entry))) (entryFrom s (now (old .entry))) (entriesOf (take used (now (d .entry)))))); entries = length (recordedIn (length (now (d .entry))) (entryFrom s (now (old .entry))) (entriesOf (take used (now (d .entry))))) } ⌝ }
+    requires { ⌜ Recordable (now d) used s (now old) ⌝ }
+    ensures history { λ _. ⌜ now (d .exit) ≡ holding (now (d .entry)) used (historyBytes (recordedOver (now (d .entry)) used s (now (old .entry)))) ⌝ }
+    ensures left { λ r. ⌜ r ≡ runHeld (recordedOver (now (d .entry)) used s (now (old .entry))) ⌝ }
 {
     let size = entry_size(s);
     let room = d.len() - size;
     let kept = fitting(&d[..used], room);
-    put_first(d, used, kept.bytes, s, old);
+    reserve(d, used, kept.bytes, size);
+    write_entry(d, s, old);
     Run {
         bytes: size + kept.bytes,
         entries: kept.entries + 1,

@@ -9,7 +9,7 @@ use lib.Seq.{take-all, take-nil}
 use lib.Dec.{leb, ltb, eqb}
 use borrow.Author.Tests.{eqb-true, leb-true, ltb-true}
 use Rattle.fields.specs.Bytes.{part, num}
-use Rattle.fields.specs.Text.{textOk}
+use Rattle.text.specs.Text.{textOk}
 use Rattle.fields.specs.Rule.{_then_, unless, field, each}
 use Rattle.fields.specs.declared.rule.Verdict.{Verdict}
 use Rattle.fields.specs.declared.rule.Verdict.the-variants.{Good, Refused}

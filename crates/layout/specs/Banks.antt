@@ -5,7 +5,7 @@ use mathlib.Core.List.{List}
 use lib.ListN.{length}
 use lib.Dec.{leb, ltb, eqb}
 use Rattle.fields.specs.Bytes.{part, num}
-use Rattle.fields.specs.Text.{textOk}
+use Rattle.text.specs.Text.{textOk}
 use Rattle.fields.specs.Rule.{_then_, unless, field, inside, each}
 use Rattle.fields.specs.declared.rule.Verdict.{Verdict}
 use Rattle.layout.specs.Places.{channelCount, bankCount, offsetPlace, banksPlace}

@@ -4,7 +4,7 @@ use mathlib.Core.Bool.{true}
 use mathlib.Core.List.{List}
 use lib.Dec.{eqb}
 use Rattle.fields.specs.Bytes.{part, num}
-use Rattle.fields.specs.Text.{textOk}
+use Rattle.text.specs.Text.{textOk}
 use Rattle.fields.specs.Rule.{_then_, field, inside}
 use Rattle.fields.specs.declared.rule.Verdict.{Verdict}
 

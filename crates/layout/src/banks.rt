@@ -7,15 +7,17 @@ use crate::places::offset_place;
 use crate::whole::entries_good;
 use fields::numbers::le16;
 use fields::numbers::le32;
-use fields::rule::BANK_ENTRY;
-use fields::rule::BANK_OFFSET;
-use fields::rule::TRAILING;
-use fields::rule::VALUE;
 use fields::rule::Verdict;
 use fields::rule::field;
 use fields::rule::first;
 use fields::rule::unless;
-use fields::text::text_field;
+use format::refusals::BANK_ENTRY;
+use format::refusals::BANK_OFFSET;
+use format::refusals::TRAILING;
+use format::refusals::VALUE;
+use format::sizes::BANK_HEAD_SIZE;
+use format::sizes::ENTRY_SIZE;
+use text::text_field;
 ghost use mathlib.Core.Path.{_≡_};
 ghost use Prim.Native.Nat.{_+_, _*_, _<_, _≤_, _^_};
 ghost use lib.ListN.{length};
@@ -97,7 +99,7 @@ pub fn bank_head(f: &[u8], p: usize) -> Verdict
     requires { ⌜ p < 2 ^ 60 ⌝ }
     ensures { λ r. ⌜ r ≡ bankHead (now (f .entry)) p ⌝ }
 {
-    let s = lend(f, p, 34);
+    let s = lend(f, p, BANK_HEAD_SIZE);
     let name = text_field(s, p, 0);
     let count = field(s.len(), p, 32, 2, VALUE, true);
     first(name, count)
@@ -123,14 +125,14 @@ fn bank_at(f: &[u8], t: usize, p: usize) -> Verdict
     if let Verdict::Refused(_, _) = head {
         return head;
     }
-    judge_entries(f, entry_count(f, p), p + 34)
+    judge_entries(f, entry_count(f, p), p + BANK_HEAD_SIZE)
 }
 
 pub fn next_bank(f: &[u8], p: usize) -> usize
     requires { ⌜ p < 2 ^ 60 ⌝ }
     ensures { λ r. ⌜ (r ≡ nextBank (now (f .entry)) p) × (r < p + 2 ^ 18) ⌝ }
 {
-    p + 34 + entry_count(f, p) * 2
+    p + BANK_HEAD_SIZE + entry_count(f, p) * ENTRY_SIZE
 }
 
 pub fn judge_banks(f: &[u8]) -> Verdict

@@ -1,13 +1,13 @@
 // The judge of the header.
 use fields::numbers::le16;
 use fields::numbers::le64;
-use fields::rule::MAGIC;
-use fields::rule::VALUE;
-use fields::rule::VERSION;
 use fields::rule::Verdict;
 use fields::rule::field;
 use fields::rule::first;
-use fields::text::text_field;
+use format::refusals::MAGIC;
+use format::refusals::VALUE;
+use format::refusals::VERSION;
+use text::text_field;
 ghost use mathlib.Core.Path.{_≡_};
 ghost use Rattle.layout.specs.Header.{identityRule, headerRule};
 

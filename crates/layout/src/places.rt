@@ -1,6 +1,10 @@
 // Counts, and where the parts of a file stand.
 use crate::Counts;
 use fields::numbers::le16;
+use format::sizes::CHANNEL_SIZE;
+use format::sizes::CONTACT_SIZE;
+use format::sizes::HEADER_SIZE;
+use format::sizes::OFFSET_SIZE;
 ghost use mathlib.Core.Path.{_≡_};
 ghost use Prim.Native.Nat.{_+_, _*_, _<_, _≤_, _^_};
 ghost use Rattle.fields.specs.Bytes.{part};
@@ -52,21 +56,21 @@ pub fn contact_place(i: usize) -> usize
     requires { ⌜ i < 65536 ⌝ }
     ensures { λ r. ⌜ (r ≡ contactPlace i) × (r < 2 ^ 22) ⌝ }
 {
-    88 + i * 39
+    HEADER_SIZE + i * CONTACT_SIZE
 }
 
 pub fn channel_place(f: &[u8], i: usize) -> usize
     requires { ⌜ i < 65536 ⌝ }
     ensures { λ r. ⌜ (r ≡ channelPlace (now (f .entry)) i) × (r < 2 ^ 24) ⌝ }
 {
-    contact_place(contact_count(f)) + i * 90
+    contact_place(contact_count(f)) + i * CHANNEL_SIZE
 }
 
 pub fn offset_place(f: &[u8], i: usize) -> usize
     requires { ⌜ i < 65536 ⌝ }
     ensures { λ r. ⌜ (r ≡ offsetPlace (now (f .entry)) i) × (r < 2 ^ 25) ⌝ }
 {
-    channel_place(f, channel_count(f)) + i * 4
+    channel_place(f, channel_count(f)) + i * OFFSET_SIZE
 }
 
 pub fn banks_place(f: &[u8]) -> usize

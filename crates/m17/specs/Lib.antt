@@ -1,4 +1,2 @@
 -- M17 addresses, as document 01 reads source 001.
 pub mod Address
--- how the code goes about it
-pub mod Table

@@ -1,6 +1,11 @@
 // M17 addresses: callsign text to number and back (document 01, "M17 addresses").
 mod tables;
 
+use format::refusals::ADDRESS_NUMBER;
+use format::refusals::CALLSIGN_BUFFER;
+use format::refusals::CALLSIGN_FOREIGN;
+use format::refusals::CALLSIGN_LENGTH;
+use format::refusals::CALLSIGN_SPACE;
 ghost use mathlib.Core.Path.{_≡_};
 ghost use mathlib.Core.Bool.{cond};
 ghost use mathlib.Core.List.{_++_};
@@ -8,7 +13,7 @@ ghost use Prim.Native.Nat.{ℕ, _+_, _-_, _<_, _≤_, _^_};
 ghost use lib.Dec.{ltb};
 ghost use lib.ListN.{length, drop, replicate};
 ghost use Rattle.m17.specs.Address.{digitOf, charOf, addressOf, firstForeign, encoding, decoding, decodedInto, addressOk, addressFor, addressNumber, addressGood, isCallsign, textFor};
-ghost use Rattle.m17.specs.Table.{Table};
+ghost use Rattle.fields.specs.Table.{Table};
 
 // What an address field of a contact means.
 pub enum Address {
@@ -29,16 +34,6 @@ pub enum Decoded {
     Broadcast,
     Refused(u8, usize),
 }
-
-pub const TEXT_LENGTH: u8 = 20;
-
-pub const FOREIGN: u8 = 21;
-
-pub const ENDS_IN_SPACE: u8 = 22;
-
-pub const INVALID_NUMBER: u8 = 23;
-
-pub const SHORT_TEXT_BUFFER: u8 = 24;
 
 const LAST_CALLSIGN: u64 = 262_143_999_999_999;
 
@@ -109,13 +104,13 @@ pub fn encode(s: &[u8]) -> Encoded
 {
     let n = s.len();
     if n == 0 || 9 < n {
-        return Encoded::Refused(TEXT_LENGTH, 0);
+        return Encoded::Refused(CALLSIGN_LENGTH, 0);
     }
     match number(s) {
-        Sum::Foreign => Encoded::Refused(FOREIGN, first_foreign(s)),
+        Sum::Foreign => Encoded::Refused(CALLSIGN_FOREIGN, first_foreign(s)),
         Sum::Number(sum) => {
             if s[n - 1] == b' ' {
-                Encoded::Refused(ENDS_IN_SPACE, 0)
+                Encoded::Refused(CALLSIGN_SPACE, 0)
             } else {
                 Encoded::Number(sum)
             }
@@ -168,7 +163,7 @@ pub fn decode(n: u64, out: &mut [u8]) -> Decoded
     ensures { λ r. ⌜ (r ≡ decoding (length (now (out .entry))) n) × (now (out .exit) ≡ decodedInto (now (out .entry)) n) ⌝ }
 {
     if out.len() < 9 {
-        return Decoded::Refused(SHORT_TEXT_BUFFER, 0);
+        return Decoded::Refused(CALLSIGN_BUFFER, 0);
     }
     if is_callsign(n) {
         let t = text_of(n);
@@ -180,7 +175,7 @@ pub fn decode(n: u64, out: &mut [u8]) -> Decoded
     if n == BROADCAST {
         return Decoded::Broadcast;
     }
-    Decoded::Refused(INVALID_NUMBER, 0)
+    Decoded::Refused(ADDRESS_NUMBER, 0)
 }
 
 // Whether a number is an address that a contact may hold.

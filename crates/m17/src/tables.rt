@@ -1,7 +1,7 @@
 // The tables of characters and of digits. A function that goes through a text takes its table first: a constant is laid out anew at
 // each use.
 ghost use Rattle.m17.specs.Address.{digitOf, charOf};
-ghost use Rattle.m17.specs.Table.{Table};
+ghost use Rattle.fields.specs.Table.{Table};
 
 // The characters, by their digits.
 pub fn characters() -> [u8; 40]

@@ -11,16 +11,9 @@ use Rattle.fields.proofs.Laws.{length-part, part-add, AllBytes, littleBytes-num
 use Rattle.layout.specs.Places.{contactCount, channelCount, bankCount, contactPlace, channelPlace, offsetPlace, banksPlace}
 use Rattle.layout.specs.Banks.{entryCount, nextBank, offsetsRule, banksRule, bankPlace}
 use Rattle.layout.proofs.Laws.{bank-leads, bank-inside, bank-first, bank-next, banks-end-is, offset-walks, offset-good, offset-inside}
+use Rattle.plug.specs.Laid.{Laid}
 use Rattle.plug.specs.Plug.{Bank, joined, bankBytes, offsetsFrom, countBytes, plugBytes, indexesAt, banksAt, plugOf}
 use Rattle.plug.proofs.Blocks.{joined-blocks, length-blocks, length-indexes, pairs-indexes, length-bankBytes, length-banksAt}
-
--- what an accepted file has
-pub record Laid (f : List ℕ) : Type 0 where
-  pub bytes : AllBytes f
-  pub header : 88 ≤ length f
-  pub table : banksPlace f ≤ length f
-  pub banks : banksRule f ≡ Good
-  pub short : length f < 2 ^ 32
 
 -- ---- parts that touch
 

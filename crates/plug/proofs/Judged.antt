@@ -10,7 +10,7 @@ use lib.ListN.{length, drop, getD, length-append, length-drop}
 use lib.Dec.{leb, ltb, eqb}
 use borrow.Author.Tests.{eq-eqb, le-leb, lt-ltb, ltb-true}
 use Rattle.fields.specs.Bytes.{part, num, littleBytes}
-use Rattle.fields.specs.Text.{textOk}
+use Rattle.text.specs.Text.{textOk}
 use Rattle.fields.specs.Rule.{_then_, unless, fieldOf, field, each}
 use Rattle.fields.specs.declared.rule.Verdict.{Verdict}
 use Rattle.fields.specs.declared.rule.Verdict.the-variants.{Good}
@@ -21,7 +21,8 @@ use Rattle.layout.specs.Header.{identityRule, headerRule}
 use Rattle.layout.specs.Banks.{offsetAt, offsetsRule, entryAt, entryCount, bankHead, bankAt, banksFrom, banksRule}
 use Rattle.plug.specs.Plug.{Bank, Plug, joined, pairs, bankBytes, offsetsFrom, plugBytes}
 use Rattle.plug.proofs.Blocks.{Every, Wide, Small, banksBytes, stands-part, stands-next, stands-num, length-bankBytes}
-use Rattle.plug.proofs.FileOf.{Laid, contacts-start}
+use Rattle.plug.specs.Laid.{Laid}
+use Rattle.plug.proofs.FileOf.{contacts-start}
 use Rattle.plug.proofs.Shape.{BankShaped, Shaped, from-entries, bank-name, entry-count, bank-ends}
 use Rattle.plug.proofs.Shape.{channelsStart, tableStart, banksStart, from-contacts, from-channels, from-table, from-banks, length-plug, bytes-plug}
 use Rattle.plug.proofs.Shape.{contact-count, channel-count, bank-count, channel-place, offset-place, banks-place}

@@ -3,3 +3,4 @@ pub mod Blocks
 pub mod FileOf
 pub mod Shape
 pub mod Judged
+pub mod PlaceLaws

@@ -17,7 +17,8 @@ use Rattle.plug.proofs.Blocks.{stands-part, stands-next, stands-num, le
 use Rattle.plug.proofs.Blocks.{blocks-joined, blocks-wide, bytes-blocks, length-blocks}
 use Rattle.plug.proofs.Blocks.{bytes-pairs, indexes-pairs, indexes-small, length-indexes}
 use Rattle.plug.proofs.Blocks.{length-bankBytes, length-banksAt, length-offsets, bytes-offsets}
-use Rattle.plug.proofs.FileOf.{Laid, nextBank-is, banks-bytes, contacts-start, channels-start, offsets-start, banks-start}
+use Rattle.plug.specs.Laid.{Laid}
+use Rattle.plug.proofs.FileOf.{nextBank-is, banks-bytes, contacts-start, channels-start, offsets-start, banks-start}
 
 -- ---- shapes
 

@@ -1,51 +1,14 @@
 -- The twelve edits (document 01, "The twelve edits"), on a codeplug's records. Counts and offsets follow.
 use Prim.Native.Nat.{ℕ, zero, suc, _+_, _-_}
-use mathlib.Core.Bool.{Bool, true, false, _&&_, _||_, not, cond}
+use mathlib.Core.Bool.{_&&_, not, cond}
 use mathlib.Core.List.{List, [], _∷_, _++_, map}
-use lib.ListN.{length, take, drop, getD}
+use lib.ListN.{take, drop, getD}
 use lib.Dec.{leb, ltb, eqb}
-use Rattle.fields.specs.Bytes.{part, num, over, littleBytes, little}
-use Rattle.channel.specs.Channel.{dmrContactAt, m17ContactAt, namedContact}
-use Rattle.channel.specs.declared.ContactIndex.{ContactIndex}
-use Rattle.channel.specs.declared.ContactIndex.the-variants.{Nobody, Index}
+use Rattle.fields.specs.Bytes.{num, over, littleBytes, little}
+use Rattle.channel.specs.Values.{dmrContactAt, m17ContactAt}
 use Rattle.plug.specs.declared.Kind.{Kind}
 use Rattle.plug.specs.declared.Kind.the-variants.{InsertContact, RemoveContact, ReplaceContact, InsertChannel, RemoveChannel, ReplaceChannel, InsertBank, RemoveBank, RenameBank, InsertEntry, RemoveEntry, SetHeader}
-use Rattle.plug.specs.declared.KindRead.{KindRead}
-use Rattle.plug.specs.declared.KindRead.the-variants as read
 use Rattle.plug.specs.Plug.{Bank, Plug}
-
--- ---- the kinds, with the length of each one's record
-
--- an edit's kind by the paper's number
-unfoldable pub kindOf : ℕ → KindRead
-kindOf n =
-    cond (eqb n 1) (read.Known InsertContact)
-    (cond (eqb n 2) (read.Known RemoveContact)
-    (cond (eqb n 3) (read.Known ReplaceContact)
-    (cond (eqb n 4) (read.Known InsertChannel)
-    (cond (eqb n 5) (read.Known RemoveChannel)
-    (cond (eqb n 6) (read.Known ReplaceChannel)
-    (cond (eqb n 7) (read.Known InsertBank)
-    (cond (eqb n 8) (read.Known RemoveBank)
-    (cond (eqb n 9) (read.Known RenameBank)
-    (cond (eqb n 10) (read.Known InsertEntry)
-    (cond (eqb n 11) (read.Known RemoveEntry)
-    (cond (eqb n 12) (read.Known SetHeader)
-    read.NoKind)))))))))))
-
-unfoldable pub recordLength : Kind → ℕ
-recordLength InsertContact = 39
-recordLength RemoveContact = 0
-recordLength ReplaceContact = 39
-recordLength InsertChannel = 90
-recordLength RemoveChannel = 0
-recordLength ReplaceChannel = 90
-recordLength InsertBank = 32
-recordLength RemoveBank = 0
-recordLength RenameBank = 32
-recordLength InsertEntry = 2
-recordLength RemoveEntry = 0
-recordLength SetHeader = 72
 
 -- ---- lists
 
@@ -130,85 +93,3 @@ edited RenameBank i j r c = withBanks (changeAt i (renamed r) (c .banks)) c
 edited InsertEntry i j r c = withBanks (changeAt i (withEntries (insertAt j (little r))) (c .banks)) c
 edited RemoveEntry i j r c = withBanks (changeAt i (withEntries (removeAt j)) (c .banks)) c
 edited SetHeader i j r c = withPreamble (take 10 (c .preamble) ++ r) c
-
--- ---- what refuses an edit before its result is read
-
--- how many entries bank i has
-unfoldable pub entriesIn : ℕ → List Bank → ℕ
-entriesIn i [] = 0
-entriesIn zero (b ∷ l) = length (b .entries)
-entriesIn (suc i) (b ∷ l) = entriesIn i l
-
--- 33: an insertion's place runs from 0 to the count, any other stays below it, an unused one must be 0
-abbrev pub insertion : ℕ → ℕ → Bool
-insertion place count = leb place count
-
-abbrev pub existing : ℕ → ℕ → Bool
-existing place count = ltb place count
-
-abbrev pub unused : ℕ → Bool
-unused place = eqb place 0
-
-unfoldable pub placeOk : Kind → ℕ → ℕ → Plug → Bool
-placeOk InsertContact i j c = insertion i (length (c .contacts)) && unused j
-placeOk RemoveContact i j c = existing i (length (c .contacts)) && unused j
-placeOk ReplaceContact i j c = existing i (length (c .contacts)) && unused j
-placeOk InsertChannel i j c = insertion i (length (c .channels)) && unused j
-placeOk RemoveChannel i j c = existing i (length (c .channels)) && unused j
-placeOk ReplaceChannel i j c = existing i (length (c .channels)) && unused j
-placeOk InsertBank i j c = insertion i (length (c .banks)) && unused j
-placeOk RemoveBank i j c = existing i (length (c .banks)) && unused j
-placeOk RenameBank i j c = existing i (length (c .banks)) && unused j
-placeOk InsertEntry i j c = existing i (length (c .banks)) && insertion j (entriesIn i (c .banks))
-placeOk RemoveEntry i j c = existing i (length (c .banks)) && existing j (entriesIn i (c .banks))
-placeOk SetHeader i j c = unused i && unused j
-
--- 34: the count to grow is 65,535
-abbrev pub canGrow : ℕ → Bool
-canGrow count = not (eqb count 65535)
-
-unfoldable pub countOk : Kind → ℕ → Plug → Bool
-countOk InsertContact i c = canGrow (length (c .contacts))
-countOk RemoveContact i c = true
-countOk ReplaceContact i c = true
-countOk InsertChannel i c = canGrow (length (c .channels))
-countOk RemoveChannel i c = true
-countOk ReplaceChannel i c = true
-countOk InsertBank i c = canGrow (length (c .banks))
-countOk RemoveBank i c = true
-countOk RenameBank i c = true
-countOk InsertEntry i c = canGrow (entriesIn i (c .banks))
-countOk RemoveEntry i c = true
-countOk SetHeader i c = true
-
--- 35: some DMR or M17 channel names contact i
-unfoldable pub isIndex : ℕ → ContactIndex → Bool
-isIndex i Nobody = false
-isIndex i (Index x) = eqb x i
-
-unfoldable pub someNames : ℕ → List (List ℕ) → Bool
-someNames i [] = false
-someNames i (s ∷ l) = isIndex i (namedContact s) || someNames i l
-
--- 35: some bank holds channel i
-unfoldable pub holdsChannel : ℕ → List ℕ → Bool
-holdsChannel i [] = false
-holdsChannel i (x ∷ l) = eqb x i || holdsChannel i l
-
-unfoldable pub someHolds : ℕ → List Bank → Bool
-someHolds i [] = false
-someHolds i (b ∷ l) = holdsChannel i (b .entries) || someHolds i l
-
-unfoldable pub inUse : Kind → ℕ → Plug → Bool
-inUse InsertContact i c = false
-inUse RemoveContact i c = someNames i (c .channels)
-inUse ReplaceContact i c = false
-inUse InsertChannel i c = false
-inUse RemoveChannel i c = someHolds i (c .banks)
-inUse ReplaceChannel i c = false
-inUse InsertBank i c = false
-inUse RemoveBank i c = false
-inUse RenameBank i c = false
-inUse InsertEntry i c = false
-inUse RemoveEntry i c = false
-inUse SetHeader i c = false

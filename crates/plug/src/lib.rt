@@ -1,6 +1,13 @@
 // A codeplug as lists of records, its file, and the twelve edits on it: definitions and their laws; the kinds of edits.
+pub mod places; // places.rt: banks of a file by their offsets
+
+use format::sizes::CHANNEL_SIZE;
+use format::sizes::CONTACT_SIZE;
+use format::sizes::ENTRY_SIZE;
+use format::sizes::TEXT_SIZE;
+use format::sizes::TITLE_SIZE;
 ghost use mathlib.Core.Path.{_≡_};
-ghost use Rattle.plug.specs.Edits.{kindOf, recordLength};
+ghost use Rattle.plug.specs.Kinds.{kindOf, recordLength};
 
 // The twelve kinds of edits, in the order of document 01.
 pub enum Kind {
@@ -49,14 +56,14 @@ pub fn record_length(k: Kind) -> usize
     ensures { λ r. ⌜ r ≡ recordLength k ⌝ }
 {
     match k {
-        Kind::InsertContact => 39,
-        Kind::ReplaceContact => 39,
-        Kind::InsertChannel => 90,
-        Kind::ReplaceChannel => 90,
-        Kind::InsertBank => 32,
-        Kind::RenameBank => 32,
-        Kind::InsertEntry => 2,
-        Kind::SetHeader => 72,
+        Kind::InsertContact => CONTACT_SIZE,
+        Kind::ReplaceContact => CONTACT_SIZE,
+        Kind::InsertChannel => CHANNEL_SIZE,
+        Kind::ReplaceChannel => CHANNEL_SIZE,
+        Kind::InsertBank => TEXT_SIZE,
+        Kind::RenameBank => TEXT_SIZE,
+        Kind::InsertEntry => ENTRY_SIZE,
+        Kind::SetHeader => TITLE_SIZE,
         Kind::RemoveContact => 0,
         Kind::RemoveChannel => 0,
         Kind::RemoveBank => 0,

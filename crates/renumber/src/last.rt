@@ -2,6 +2,11 @@
 use crate::shift::Shift;
 use crate::shift::shifted;
 use fields::numbers::le16;
+use format::sizes::BANK_HEAD_SIZE;
+use format::sizes::CHANNEL_SIZE;
+use format::sizes::DMR_CONTACT_AT;
+use format::sizes::ENTRY_SIZE;
+use format::sizes::M17_CONTACT_AT;
 use layout::banks::entry_count;
 ghost use mathlib.Core.Path.{_≡_};
 ghost use Prim.Native.Nat.{_+_, _*_, _<_, _≤_, _^_};
@@ -49,10 +54,10 @@ fn last_of_channel(f: &[u8], p: usize, s: Shift) -> Last
 {
     let mode = f[p];
     if mode == 1 {
-        return moves_at(f, p + 87, s);
+        return moves_at(f, p + DMR_CONTACT_AT, s);
     }
     if mode == 2 {
-        return moves_at(f, p + 88, s);
+        return moves_at(f, p + M17_CONTACT_AT, s);
     }
     Last::Nowhere
 }
@@ -68,7 +73,7 @@ pub fn last_contact(f: &[u8], start: usize, n: usize, s: Shift) -> Last
     while i < n {
         last = later(last, last_of_channel(f, p, s));
         i += 1;
-        p += 90;
+        p += CHANNEL_SIZE;
     }
     last
 }
@@ -99,9 +104,9 @@ pub fn last_entry(f: &[u8], start: usize, n: usize, s: Shift) -> Last
     let mut p = start;
     while i < n {
         let count = entry_count(f, p);
-        last = later(last, last_of_run(f, p + 34, count, s));
+        last = later(last, last_of_run(f, p + BANK_HEAD_SIZE, count, s));
         i += 1;
-        p += 34 + count * 2;
+        p += BANK_HEAD_SIZE + count * ENTRY_SIZE;
     }
     last
 }

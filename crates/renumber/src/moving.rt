@@ -7,6 +7,11 @@ use fields::numbers::le16;
 use fields::numbers::le32;
 use fields::put::put_le16;
 use fields::put::put_le32;
+use format::sizes::BANK_HEAD_SIZE;
+use format::sizes::CHANNEL_SIZE;
+use format::sizes::DMR_CONTACT_AT;
+use format::sizes::ENTRY_SIZE;
+use format::sizes::M17_CONTACT_AT;
 use layout::banks::entry_count;
 ghost use mathlib.Core.Path.{_≡_};
 ghost use Prim.Native.Nat.{_+_, _*_, _<_, _≤_, _^_};
@@ -34,11 +39,11 @@ fn move_contact(d: &mut [u8], p: usize, s: Shift)
 {
     let mode = d[p];
     if mode == 1 {
-        move_index(d, p + 87, s);
+        move_index(d, p + DMR_CONTACT_AT, s);
         return;
     }
     if mode == 2 {
-        move_index(d, p + 88, s);
+        move_index(d, p + M17_CONTACT_AT, s);
     }
 }
 
@@ -52,7 +57,7 @@ pub fn move_contacts(d: &mut [u8], start: usize, n: usize, s: Shift)
     while i < n {
         move_contact(d, p, s);
         i += 1;
-        p += 90;
+        p += CHANNEL_SIZE;
     }
 }
 
@@ -79,9 +84,9 @@ pub fn move_entries(d: &mut [u8], start: usize, n: usize, s: Shift)
     let mut p = start;
     while i < n {
         let count = entry_count(d, p);
-        move_run(d, p + 34, count, s);
+        move_run(d, p + BANK_HEAD_SIZE, count, s);
         i += 1;
-        p += 34 + count * 2;
+        p += BANK_HEAD_SIZE + count * ENTRY_SIZE;
     }
 }
 

@@ -10,15 +10,6 @@ use borrow.Author.Needs.{needs}
 use Rattle.bits.proofs.signed_of.Statement.{statement}
 use Rattle.bits.proofs.signed_of.Tie as tie
 
-cast-result : tie.Need-cast-result
-cast-result c = search needs
-
-sub-result : tie.Need-sub-result
-sub-result c = search needs
-
-cast-result-2 : tie.Need-cast-result-2
-cast-result-2 c = search needs
-
 sub-result-2 : tie.Need-sub-result-2
 sub-result-2 c = rw (toZ-pos w8 (255 - c .before .args .b) (omega arith), minus-one) (record { sfits = omega arith })
 
@@ -36,4 +27,4 @@ returns-2 c =
 
 pub signed-of-spec : {M : Type 1} → statement M
 signed-of-spec =
-    tie.close (tie.spec cast-result sub-result cast-result-2 sub-result-2 returns returns-2)
+    tie.close (tie.spec (search needs) (search needs) (search needs) sub-result-2 returns returns-2)

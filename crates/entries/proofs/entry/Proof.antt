@@ -18,15 +18,6 @@ inside : (s : List ℕ) (i : ℕ) {m n : ℕ} → i < length s / 2 → m ≡ num
 unfolding entryStep
 inside s i h e f = rw (e, f, lt-ltb i (length s / 2) h)
 
-mul-le16 : tie.Need-mul-le16
-mul-le16 c = search needs
-
-le16-requires : tie.Need-le16-requires
-le16-requires c κs = search needs
-
-add-t9 : tie.Need-add-t9
-add-t9 c = search needs
-
 returns : tie.Need-returns
 returns c =
     let e = c .before .before .before in
@@ -39,4 +30,4 @@ returns-2 c =
     rw (le-ltb (e .args .i) (length (e .args .s .now) / 2) (omega arith))
 
 pub entry-spec : {M : Type 1} → statement M
-entry-spec = tie.close (tie.spec mul-le16 le16-requires add-t9 returns returns-2)
+entry-spec = tie.close (tie.spec (search needs) (search needs) (search needs) returns returns-2)

@@ -4,12 +4,6 @@ use borrow.Author.Needs.{needs}
 use Rattle.m17.proofs.address_good.Statement.{statement}
 use Rattle.m17.proofs.address_good.Tie as tie
 
-enum-known-a : tie.Need-enum-known-a
-enum-known-a c = search needs
-
-is-callsign-requires : tie.Need-is-callsign-requires
-is-callsign-requires c κs = search needs
-
 enum-told : tie.Need-enum-told
 enum-told c = search needs
 
@@ -23,4 +17,4 @@ returns-2 c = rw (c .enum-told .given .1)
 
 pub address-good-spec : {M : Type 1} → statement M
 address-good-spec =
-    tie.close (tie.spec enum-known-a is-callsign-requires enum-told returns returns-2)
+    tie.close (tie.spec (search needs) (search needs) enum-told returns returns-2)

@@ -4,9 +4,6 @@ use borrow.Author.Needs.{needs}
 use Rattle.m17.proofs.address_number.Statement.{statement}
 use Rattle.m17.proofs.address_number.Tie as tie
 
-enum-known-a : tie.Need-enum-known-a
-enum-known-a c = search needs
-
 enum-told : tie.Need-enum-told
 enum-told c = search needs
 
@@ -19,4 +16,4 @@ unfolding addressNumber
 returns-2 c = rw (c .enum-told .given .1)
 
 pub address-number-spec : {M : Type 1} → statement M
-address-number-spec = tie.close (tie.spec enum-known-a enum-told returns returns-2)
+address-number-spec = tie.close (tie.spec (search needs) enum-told returns returns-2)

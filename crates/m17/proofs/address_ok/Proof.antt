@@ -4,9 +4,6 @@ use borrow.Author.Needs.{needs}
 use Rattle.m17.proofs.address_ok.Statement.{statement}
 use Rattle.m17.proofs.address_ok.Tie as tie
 
-is-callsign-requires : tie.Need-is-callsign-requires
-is-callsign-requires c κs = search needs
-
 returns : tie.Need-returns
 unfolding addressOk
 returns c = rw (← c .before .is-callsign .ensures, c .if1 .taken)
@@ -16,4 +13,4 @@ unfolding addressOk
 returns-2 c = rw (← c .before .is-callsign .ensures, c .if1 .left)
 
 pub address-ok-spec : {M : Type 1} → statement M
-address-ok-spec = tie.close (tie.spec is-callsign-requires returns returns-2)
+address-ok-spec = tie.close (tie.spec (search needs) returns returns-2)

@@ -4,11 +4,8 @@ use borrow.Author.Needs.{needs}
 use Rattle.m17.proofs.character.Statement.{statement}
 use Rattle.m17.proofs.character.Tie as tie
 
-element-copy-out-result : tie.Need-element-copy-out-result
-element-copy-out-result c = search needs
-
 returns : tie.Need-returns
 returns c = rw zero-add at (c .before .pre .1 .entry (c .before .args .d) (c .before .pre .0))
 
 pub character-spec : {M : Type 1} → statement M
-character-spec = tie.close (tie.spec element-copy-out-result returns)
+character-spec = tie.close (tie.spec (search needs) returns)

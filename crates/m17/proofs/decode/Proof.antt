@@ -10,18 +10,9 @@ returns c =
     let e = c .before .before in
     decoding-short (e .args .out .now) (e .args .n) (c .if1 .taken)
 
-is-callsign-requires : tie.Need-is-callsign-requires
-is-callsign-requires c κs = search needs
-
 text-of-requires : tie.Need-text-of-requires
 text-of-requires c κs =
     callsign-range (c .before .before .before .before .args .n) (sym (c .before .is-callsign .ensures) ∙ c .if2 .taken) .1
-
-put-nine-requires : tie.Need-put-nine-requires
-put-nine-requires c κs = search needs
-
-same-length : tie.Need-same-length
-same-length c = search needs
 
 returns-2 : tie.Need-returns-2
 returns-2 c =
@@ -48,10 +39,10 @@ decode-spec =
     tie.close
     (tie.spec
     returns
-    is-callsign-requires
+    (search needs)
     text-of-requires
-    put-nine-requires
-    same-length
+    (search needs)
+    (search needs)
     returns-2
     returns-3
     returns-4)

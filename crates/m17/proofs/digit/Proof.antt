@@ -14,9 +14,6 @@ returns c =
     let k = c .before .args .c in
     (sym (⊎-elim (λ w. digit-before k (omega arith)) (λ w. digit-past k (omega (arith, ltb-true))) (c .if1 .came)), search needs)
 
-cast-result : tie.Need-cast-result
-cast-result c = search needs
-
 element-copy-out-result : tie.Need-element-copy-out-result
 element-copy-out-result c = omega (arith, ltb-false)
 
@@ -28,4 +25,4 @@ returns-2 c =
     (r, rw r (digit-le (e .args .c)))
 
 pub digit-spec : {M : Type 1} → statement M
-digit-spec = tie.close (tie.spec returns cast-result element-copy-out-result returns-2)
+digit-spec = tie.close (tie.spec returns (search needs) element-copy-out-result returns-2)

@@ -16,15 +16,6 @@ Inv-loop s digits i₀ i = (i ≤ length s) × (firstForeign s ≡ i + firstFore
 abbrev μ-loop : tie.MeasureT-loop
 μ-loop s digits i₀ i = length s - i
 
-digits-requires : tie.Need-digits-requires Inv-loop μ-loop
-digits-requires c κs = search needs
-
-loop-holds : tie.Need-loop-holds Inv-loop μ-loop
-loop-holds c = search needs
-
-shared-slice-read-digit : tie.Need-shared-slice-read-digit Inv-loop μ-loop
-shared-slice-read-digit c = search needs
-
 digit-requires : tie.Need-digit-requires Inv-loop μ-loop
 digit-requires c κs = c .before .before .before .before .digits .ensures
 
@@ -35,12 +26,6 @@ returns c =
     let h : firstForeign (drop (e .loop .i) s) ≡ 0 =
     foreign-here s (e .loop .i) (c .before .before .before .before .loop-test .taken) (omega arith) in
     omega arith
-
-add-i : tie.Need-add-i Inv-loop μ-loop
-add-i c = search needs
-
-loop-less : tie.Need-loop-less Inv-loop μ-loop
-loop-less c = search needs
 
 loop-again : tie.Need-loop-again Inv-loop μ-loop
 loop-again c =
@@ -63,12 +48,12 @@ first-foreign-spec =
     (tie.spec
     Inv-loop
     μ-loop
-    digits-requires
-    loop-holds
-    shared-slice-read-digit
+    (search needs)
+    (search needs)
+    (search needs)
     digit-requires
     returns
-    add-i
-    loop-less
+    (search needs)
+    (search needs)
     loop-again
     returns-2)

@@ -17,17 +17,8 @@ Inv-loop s digits sum₀ i₀ sum i = (i ≤ length s) × (sum ≡ addressOf (dr
 abbrev μ-loop : tie.MeasureT-loop
 μ-loop s digits sum₀ i₀ sum i = i
 
-digits-requires : tie.Need-digits-requires Inv-loop μ-loop
-digits-requires c κs = search needs
-
 loop-holds : tie.Need-loop-holds Inv-loop μ-loop
 loop-holds c = (search needs, rw drop-length (unfold addressOf in refl), rw drop-length (unfold firstForeign in refl))
-
-sub-i : tie.Need-sub-i Inv-loop μ-loop
-sub-i c = search needs
-
-shared-slice-read-digit : tie.Need-shared-slice-read-digit Inv-loop μ-loop
-shared-slice-read-digit c = search needs
 
 digit-requires : tie.Need-digit-requires Inv-loop μ-loop
 digit-requires c κs = c .before .before .before .before .digits .ensures
@@ -47,9 +38,6 @@ mul-sum c =
     let room : addressOf (drop (l .loop .i) s) < 40 ^ 8 = address-room s (l .loop .i) (e .pre) (c .before .before .before .before .loop-test .taken) (l .loop .inv .2) in
     omega arith
 
-cast-sum : tie.Need-cast-sum Inv-loop μ-loop
-cast-sum c = search needs
-
 add-sum : tie.Need-add-sum Inv-loop μ-loop
 add-sum c =
     let l = c .before .before .before .before .before in
@@ -57,9 +45,6 @@ add-sum c =
     let s = e .args .s .now in
     let room : addressOf (drop (l .loop .i) s) < 40 ^ 8 = address-room s (l .loop .i) (e .pre) (c .before .before .before .before .loop-test .taken) (l .loop .inv .2) in
     omega arith
-
-loop-less : tie.Need-loop-less Inv-loop μ-loop
-loop-less c = search needs
 
 loop-again : tie.Need-loop-again Inv-loop μ-loop
 loop-again c =
@@ -86,15 +71,15 @@ number-spec =
     (tie.spec
     Inv-loop
     μ-loop
-    digits-requires
+    (search needs)
     loop-holds
-    sub-i
-    shared-slice-read-digit
+    (search needs)
+    (search needs)
     digit-requires
     returns
     mul-sum
-    cast-sum
+    (search needs)
     add-sum
-    loop-less
+    (search needs)
     loop-again
     returns-2)

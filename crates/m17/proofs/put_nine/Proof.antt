@@ -16,21 +16,6 @@ Inv-loop out₀ bytes i₀ out i = (i ≤ 9) × (length out ≡ length out₀) �
 abbrev μ-loop : tie.MeasureT-loop
 μ-loop out₀ bytes i₀ out i = 9 - i
 
-loop-holds : tie.Need-loop-holds Inv-loop μ-loop
-loop-holds c = search needs
-
-array-read-out : tie.Need-array-read-out Inv-loop μ-loop
-array-read-out c = search needs
-
-slice-write-out : tie.Need-slice-write-out Inv-loop μ-loop
-slice-write-out c = search needs
-
-add-i : tie.Need-add-i Inv-loop μ-loop
-add-i c = search needs
-
-loop-less : tie.Need-loop-less Inv-loop μ-loop
-loop-less c = search needs
-
 loop-again : tie.Need-loop-again Inv-loop μ-loop
 loop-again c =
     let e = c .before .before in
@@ -39,9 +24,6 @@ loop-again c =
       simp length-set (c .before .loop .inv .1),
       nine-turn (c .before .loop .out) (e .args .out .now) (e .args .t2) (c .before .loop .i) (c .before .loop .inv .2) (omega arith) (omega arith),
     )
-
-same-length : tie.Need-same-length Inv-loop μ-loop
-same-length c = search needs
 
 returns : tie.Need-returns Inv-loop μ-loop
 returns c =
@@ -56,11 +38,11 @@ put-nine-spec =
     (tie.spec
     Inv-loop
     μ-loop
-    loop-holds
-    array-read-out
-    slice-write-out
-    add-i
-    loop-less
+    (search needs)
+    (search needs)
+    (search needs)
+    (search needs)
+    (search needs)
     loop-again
-    same-length
+    (search needs)
     returns)

@@ -1,5 +1,5 @@
 -- Each arm answers as the definition's rule for it; past the arms no rule holds.
-use Rattle.plug.specs.Edits.{kindOf}
+use Rattle.plug.specs.Kinds.{kindOf}
 use borrow.Author.Tests.{ne-eqb}
 use Rattle.plug.proofs.kind_of.Statement.{statement}
 use Rattle.plug.proofs.kind_of.Tie as tie

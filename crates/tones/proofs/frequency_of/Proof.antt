@@ -6,12 +6,6 @@ use borrow.Author.Needs.{needs}
 use Rattle.tones.proofs.frequency_of.Statement.{statement}
 use Rattle.tones.proofs.frequency_of.Tie as tie
 
-mul-t6 : tie.Need-mul-t6
-mul-t6 c = search needs
-
-array-read-t9 : tie.Need-array-read-t9
-array-read-t9 c = search needs
-
 returns : tie.Need-returns
 unfolding frequencyOf toneTable
 returns c = rw (lt-ltb _ _ (c .if1 .taken))
@@ -21,4 +15,4 @@ unfolding frequencyOf
 returns-2 c = rw (le-ltb _ _ (c .if1 .left))
 
 pub frequency-of-spec : {M : Type 1} → statement M
-frequency-of-spec = tie.close (tie.spec mul-t6 array-read-t9 returns returns-2)
+frequency-of-spec = tie.close (tie.spec (search needs) (search needs) returns returns-2)

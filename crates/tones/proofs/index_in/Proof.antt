@@ -4,12 +4,6 @@ use borrow.Author.Needs.{needs}
 use Rattle.tones.proofs.index_in.Statement.{statement}
 use Rattle.tones.proofs.index_in.Tie as tie
 
-enum-known-t : tie.Need-enum-known-t
-enum-known-t c = search needs
-
-enum-known-t-2 : tie.Need-enum-known-t-2
-enum-known-t-2 c = search needs
-
 returns : tie.Need-returns
 unfolding toneIndex
 returns c = rw (c .before .t .given .1)
@@ -19,4 +13,4 @@ unfolding toneIndex
 returns-2 c = rw (c .before .t2 .given .1)
 
 pub index-in-spec : {M : Type 1} → statement M
-index-in-spec = tie.close (tie.spec enum-known-t enum-known-t-2 returns returns-2)
+index-in-spec = tie.close (tie.spec (search needs) (search needs) returns returns-2)

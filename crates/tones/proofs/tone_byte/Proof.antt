@@ -6,12 +6,6 @@ use borrow.Author.Needs.{needs}
 use Rattle.tones.proofs.tone_byte.Statement.{statement}
 use Rattle.tones.proofs.tone_byte.Tie as tie
 
-enum-known-t : tie.Need-enum-known-t
-enum-known-t c = search needs
-
-enum-known-t-2 : tie.Need-enum-known-t-2
-enum-known-t-2 c = search needs
-
 returns : tie.Need-returns
 returns c = enabled-byte _ _ (c .before .t .given .1) (c .before .before .before .pre)
 
@@ -20,4 +14,4 @@ unfolding toneByte
 returns-2 c = rw (c .before .t2 .given .1)
 
 pub tone-byte-spec : {M : Type 1} → statement M
-tone-byte-spec = tie.close (tie.spec enum-known-t enum-known-t-2 returns returns-2)
+tone-byte-spec = tie.close (tie.spec (search needs) (search needs) returns returns-2)

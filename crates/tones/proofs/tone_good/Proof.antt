@@ -5,12 +5,6 @@ use borrow.Author.Needs.{needs}
 use Rattle.tones.proofs.tone_good.Statement.{statement}
 use Rattle.tones.proofs.tone_good.Tie as tie
 
-enum-known-t : tie.Need-enum-known-t
-enum-known-t c = search needs
-
-enum-known-t-2 : tie.Need-enum-known-t-2
-enum-known-t-2 c = search needs
-
 returns : tie.Need-returns
 unfolding toneGood toneIndex
 returns c = rw (c .before .t .given .1)
@@ -20,4 +14,4 @@ unfolding toneGood toneIndex
 returns-2 c = rw (c .before .t2 .given .1)
 
 pub tone-good-spec : {M : Type 1} → statement M
-tone-good-spec = tie.close (tie.spec enum-known-t enum-known-t-2 returns returns-2)
+tone-good-spec = tie.close (tie.spec (search needs) (search needs) returns returns-2)

@@ -4,15 +4,6 @@ use borrow.Author.Needs.{needs}
 use Rattle.capi.proofs.addresses.codeplug_encode_callsign.Statement.{statement}
 use Rattle.capi.proofs.addresses.codeplug_encode_callsign.Tie as tie
 
-encode-requires : tie.Need-encode-requires
-encode-requires c κs = search needs
-
-enum-known-address : tie.Need-enum-known-address
-enum-known-address c = search needs
-
-enum-known-number : tie.Need-enum-known-number
-enum-known-number c = search needs
-
 returns : tie.Need-returns
 unfolding encodeAnswer
 returns c = rw (← c .before .before .before .encode .ensures, c .before .address .given .1)
@@ -23,4 +14,4 @@ returns-2 c = rw (← c .before .before .before .encode .ensures, c .before .num
 
 pub codeplug-encode-callsign-spec : {M : Type 1} → statement M
 codeplug-encode-callsign-spec =
-    tie.close (tie.spec encode-requires enum-known-address enum-known-number returns returns-2)
+    tie.close (tie.spec (search needs) (search needs) (search needs) returns returns-2)

@@ -7,9 +7,6 @@ use Rattle.capi.proofs.answers.place_of.Tie as tie
 enum-told : tie.Need-enum-told
 enum-told c = search needs
 
-enum-known-v : tie.Need-enum-known-v
-enum-known-v c = search needs
-
 returns : tie.Need-returns
 unfolding placeOf
 returns c = rw (c .enum-told .given .1)
@@ -19,4 +16,4 @@ unfolding placeOf
 returns-2 c = rw (c .before .v .given .1)
 
 pub place-of-spec : {M : Type 1} → statement M
-place-of-spec = tie.close (tie.spec enum-told enum-known-v returns returns-2)
+place-of-spec = tie.close (tie.spec enum-told (search needs) returns returns-2)

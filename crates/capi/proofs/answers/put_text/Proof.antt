@@ -13,20 +13,11 @@ enum-told c = search needs
 returns : tie.Need-returns
 returns c = sym (written-refused _ _ _ _ _ (c .enum-told .given .1))
 
-enum-told-2 : tie.Need-enum-told-2
-enum-told-2 c = search needs
-
-slice-aggregate-put : tie.Need-slice-aggregate-put
-slice-aggregate-put c = search needs
-
 put-requires : tie.Need-put-requires
 put-requires c κs =
     let e = c .before .before .before .before .before in
     let long : length (e .args .t3) ≡ 32 = e .good .1 .1 .0 .1 .0 .1 in
     omega (arith, e .pre (c .before .before .enum-told2 .given .1))
-
-same-length : tie.Need-same-length
-same-length c = search needs
 
 returns-2 : tie.Need-returns-2
 returns-2 c = c .before .before .put .ensures ∙ sym (written-good _ _ _ (c .before .before .before .before .before .enum-told2 .given .1))
@@ -34,4 +25,4 @@ returns-2 c = c .before .before .put .ensures ∙ sym (written-good _ _ _ (c .be
 pub put-text-spec : {M : Type 1} → statement M
 put-text-spec =
     tie.close
-    (tie.spec enum-told returns enum-told-2 slice-aggregate-put put-requires same-length returns-2)
+    (tie.spec enum-told returns (search needs) (search needs) put-requires (search needs) returns-2)

@@ -13,29 +13,17 @@ enum-told c = search needs
 returns : tie.Need-returns
 returns c = sym (written-refused _ _ _ _ _ (c .enum-told .given .1))
 
-enum-told-2 : tie.Need-enum-told-2
-enum-told-2 c = search needs
-
-slice-aggregate-put : tie.Need-slice-aggregate-put
-slice-aggregate-put c = search needs
-
 put-requires : tie.Need-put-requires
 put-requires c κs =
     let e = c .before .before .before .before .before in
     let long : length (e .args .t3) ≡ 32 = e .good .1 .1 .0 .1 .0 .1 in
     omega (arith, e .pre (c .before .before .enum-told2 .given .1))
 
-slice-aggregate-put-2 : tie.Need-slice-aggregate-put-2
-slice-aggregate-put-2 c = search needs
-
 put-requires-2 : tie.Need-put-requires-2
 put-requires-2 c κs =
     let e = c .before .before .before .before .before .before .before .before .before .before in
     let long : length (e .args .t4) ≡ 32 = e .good .1 .1 .1 .0 .1 .0 .1 in
     omega (arith, e .pre (c .before .before .before .before .before .before .before .enum-told2 .given .1))
-
-same-length : tie.Need-same-length
-same-length c = search needs
 
 returns-2 : tie.Need-returns-2
 returns-2 c =
@@ -50,10 +38,10 @@ put-texts-spec =
     (tie.spec
     enum-told
     returns
-    enum-told-2
-    slice-aggregate-put
+    (search needs)
+    (search needs)
     put-requires
-    slice-aggregate-put-2
+    (search needs)
     put-requires-2
-    same-length
+    (search needs)
     returns-2)

@@ -7,17 +7,8 @@ use borrow.Author.Needs.{needs}
 use Rattle.capi.proofs.banks.bank_out.Statement.{statement}
 use Rattle.capi.proofs.banks.bank_out.Tie as tie
 
-bank-told-requires : tie.Need-bank-told-requires
-bank-told-requires c κs = search needs
-
 put-text-requires : tie.Need-put-text-requires
 put-text-requires c κs = λ good. bank-room _ _ (sym (ap (λ (r : BankRead). r .verdict) (c .before .before .before .bank-told .ensures)) ∙ good)
-
-bank-taken-requires : tie.Need-bank-taken-requires
-bank-taken-requires c κs = search needs
-
-same-length : tie.Need-same-length
-same-length c = search needs
 
 returns : tie.Need-returns
 unfolding bankName
@@ -28,4 +19,4 @@ returns c =
 pub bank-out-spec : {M : Type 1} → statement M
 bank-out-spec =
     tie.close
-    (tie.spec bank-told-requires put-text-requires bank-taken-requires same-length returns)
+    (tie.spec (search needs) put-text-requires (search needs) (search needs) returns)

@@ -3,18 +3,9 @@ use borrow.Author.Needs.{needs}
 use Rattle.capi.proofs.banks.codeplug_bank_entry_once.Statement.{statement}
 use Rattle.capi.proofs.banks.codeplug_bank_entry_once.Tie as tie
 
-entries-requires : tie.Need-entries-requires
-entries-requires c κs = search needs
-
-entry-requires : tie.Need-entry-requires
-entry-requires c κs = search needs
-
-entry-answer-requires : tie.Need-entry-answer-requires
-entry-answer-requires c κs = search needs
-
 returns : tie.Need-returns
 returns c = rw (← c .before .before .entries .ensures, ← c .before .entry .ensures) (c .entry-answer .ensures)
 
 pub codeplug-bank-entry-once-spec : {M : Type 1} → statement M
 codeplug-bank-entry-once-spec =
-    tie.close (tie.spec entries-requires entry-requires entry-answer-requires returns)
+    tie.close (tie.spec (search needs) (search needs) (search needs) returns)

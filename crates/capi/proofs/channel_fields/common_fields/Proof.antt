@@ -1,6 +1,6 @@
 -- The fields of the answer, one by one.
 use Rattle.capi.specs.Channels.{commonFields}
-use Rattle.channel.proofs.WriteLaws.{i8-passed}
+use Rattle.channel_writer.proofs.WriteLaws.{i8-passed}
 use Rattle.capi.proofs.channel_fields.common_fields.Statement.{statement}
 use Rattle.capi.proofs.channel_fields.common_fields.Tie as tie
 

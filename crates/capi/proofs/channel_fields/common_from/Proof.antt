@@ -1,6 +1,6 @@
 -- The fields of the answer, one by one.
 use Rattle.capi.specs.Channels.{commonFrom}
-use Rattle.channel.proofs.WriteLaws.{i8-passed}
+use Rattle.channel_writer.proofs.WriteLaws.{i8-passed}
 use Rattle.capi.proofs.channel_fields.common_from.Statement.{statement}
 use Rattle.capi.proofs.channel_fields.common_from.Tie as tie
 

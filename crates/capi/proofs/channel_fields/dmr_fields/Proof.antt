@@ -4,12 +4,9 @@ use borrow.Author.Needs.{needs}
 use Rattle.capi.proofs.channel_fields.dmr_fields.Statement.{statement}
 use Rattle.capi.proofs.channel_fields.dmr_fields.Tie as tie
 
-contact-index-number-requires : tie.Need-contact-index-number-requires
-contact-index-number-requires c κs = search needs
-
 returns : tie.Need-returns
 unfolding infoFields
 returns c = rw (c .contact-index-number .ensures)
 
 pub dmr-fields-spec : {M : Type 1} → statement M
-dmr-fields-spec = tie.close (tie.spec contact-index-number-requires returns)
+dmr-fields-spec = tie.close (tie.spec (search needs) returns)

@@ -4,12 +4,9 @@ use borrow.Author.Needs.{needs}
 use Rattle.capi.proofs.channel_fields.m17_fields.Statement.{statement}
 use Rattle.capi.proofs.channel_fields.m17_fields.Tie as tie
 
-contact-index-number-requires : tie.Need-contact-index-number-requires
-contact-index-number-requires c κs = search needs
-
 returns : tie.Need-returns
 unfolding infoFields
 returns c = rw (c .contact-index-number .ensures)
 
 pub m17-fields-spec : {M : Type 1} → statement M
-m17-fields-spec = tie.close (tie.spec contact-index-number-requires returns)
+m17-fields-spec = tie.close (tie.spec (search needs) returns)

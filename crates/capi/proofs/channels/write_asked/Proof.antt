@@ -6,29 +6,11 @@ use borrow.Author.Needs.{needs}
 use Rattle.capi.proofs.channels.write_asked.Statement.{statement}
 use Rattle.capi.proofs.channels.write_asked.Tie as tie
 
-unless-requires : tie.Need-unless-requires
-unless-requires c κs = search needs
-
-first-requires : tie.Need-first-requires
-first-requires c κs = search needs
-
 returns : tie.Need-returns
 returns c =
     let a = c .before .before .before .before .before .before .before .args in
     channel-stops (a .out .now) (a .name .now) (a .description .now) (a .common) (a .info) _ (omega arith)
     (c .first .ensures ∙ rw (c .before .unless .ensures))
-
-common-from-requires : tie.Need-common-from-requires
-common-from-requires c κs = search needs
-
-info-from-requires : tie.Need-info-from-requires
-info-from-requires c κs = search needs
-
-write-requires : tie.Need-write-requires
-write-requires c κs = search needs
-
-same-length : tie.Need-same-length
-same-length c = search needs
 
 returns-2 : tie.Need-returns-2
 returns-2 c =
@@ -41,11 +23,11 @@ pub write-asked-spec : {M : Type 1} → statement M
 write-asked-spec =
     tie.close
     (tie.spec
-    unless-requires
-    first-requires
+    (search needs)
+    (search needs)
     returns
-    common-from-requires
-    info-from-requires
-    write-requires
-    same-length
+    (search needs)
+    (search needs)
+    (search needs)
+    (search needs)
     returns-2)

@@ -7,17 +7,8 @@ use borrow.Author.Needs.{needs}
 use Rattle.capi.proofs.contacts.contact_out.Statement.{statement}
 use Rattle.capi.proofs.contacts.contact_out.Tie as tie
 
-contact-told-requires : tie.Need-contact-told-requires
-contact-told-requires c κs = search needs
-
 put-text-requires : tie.Need-put-text-requires
 put-text-requires c κs = λ good. contact-room _ _ (sym (ap (λ (r : ContactRead). r .verdict) (c .before .before .before .contact-told .ensures)) ∙ good)
-
-contact-taken-requires : tie.Need-contact-taken-requires
-contact-taken-requires c κs = search needs
-
-same-length : tie.Need-same-length
-same-length c = search needs
 
 returns : tie.Need-returns
 unfolding contactName
@@ -28,4 +19,4 @@ returns c =
 pub contact-out-spec : {M : Type 1} → statement M
 contact-out-spec =
     tie.close
-    (tie.spec contact-told-requires put-text-requires contact-taken-requires same-length returns)
+    (tie.spec (search needs) put-text-requires (search needs) (search needs) returns)

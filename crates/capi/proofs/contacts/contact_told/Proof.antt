@@ -11,12 +11,9 @@ returns : tie.Need-returns
 unfolding contactTold
 returns c = rw (le-leb 32 (c .before .args .size) (omega arith))
 
-blank-requires : tie.Need-blank-requires
-blank-requires c κs = search needs
-
 returns-2 : tie.Need-returns-2
 unfolding contactTold contactAnswer
 returns-2 c = rw (lt-leb 32 (c .before .before .args .size) (omega arith), c .blank .ensures)
 
 pub contact-told-spec : {M : Type 1} → statement M
-contact-told-spec = tie.close (tie.spec returns blank-requires returns-2)
+contact-told-spec = tie.close (tie.spec returns (search needs) returns-2)

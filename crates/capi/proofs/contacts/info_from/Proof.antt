@@ -9,12 +9,9 @@ returns : tie.Need-returns
 unfolding infoFrom
 returns c = rw (eq-eqb _ 1 (c .if1 .taken))
 
-address-from-requires : tie.Need-address-from-requires
-address-from-requires c κs = search needs
-
 returns-2 : tie.Need-returns-2
 unfolding infoFrom
 returns-2 c = rw (ne-eqb _ 1 (c .before .if1 .left), c .address-from .ensures)
 
 pub info-from-spec : {M : Type 1} → statement M
-info-from-spec = tie.close (tie.spec returns address-from-requires returns-2)
+info-from-spec = tie.close (tie.spec returns (search needs) returns-2)

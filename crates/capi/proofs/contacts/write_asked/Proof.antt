@@ -5,48 +5,15 @@ use borrow.Author.Needs.{needs}
 use Rattle.capi.proofs.contacts.write_asked.Statement.{statement}
 use Rattle.capi.proofs.contacts.write_asked.Tie as tie
 
-info-from-requires : tie.Need-info-from-requires
-info-from-requires c κs = search needs
-
-write-requires : tie.Need-write-requires
-write-requires c κs = search needs
-
-same-length : tie.Need-same-length
-same-length c = search needs
-
 returns : tie.Need-returns
 returns c =
     let w = c .before .before in
     contact-goes _ _ _ _ _ _ (dmr-known _ (w .before .before .before .if1 .taken)) (w .before .info-from .ensures) (w .write .ensures)
 
-info-from-requires-2 : tie.Need-info-from-requires-2
-info-from-requires-2 c κs = search needs
-
-write-requires-2 : tie.Need-write-requires-2
-write-requires-2 c κs = search needs
-
-same-length-2 : tie.Need-same-length-2
-same-length-2 c = search needs
-
 returns-2 : tie.Need-returns-2
 returns-2 c =
     let w = c .before .before in
     contact-goes _ _ _ _ _ _ (m17-known _ (w .before .before .before .if2 .taken)) (w .before .info-from2 .ensures) (w .write2 .ensures)
-
-unless-requires : tie.Need-unless-requires
-unless-requires c κs = search needs
-
-given-ok-requires : tie.Need-given-ok-requires
-given-ok-requires c κs = search needs
-
-unless-requires-2 : tie.Need-unless-requires-2
-unless-requires-2 c κs = search needs
-
-first-requires : tie.Need-first-requires
-first-requires c κs = search needs
-
-first-requires-2 : tie.Need-first-requires-2
-first-requires-2 c κs = search needs
 
 returns-3 : tie.Need-returns-3
 returns-3 c =
@@ -59,17 +26,17 @@ pub write-asked-spec : {M : Type 1} → statement M
 write-asked-spec =
     tie.close
     (tie.spec
-    info-from-requires
-    write-requires
-    same-length
+    (search needs)
+    (search needs)
+    (search needs)
     returns
-    info-from-requires-2
-    write-requires-2
-    same-length-2
+    (search needs)
+    (search needs)
+    (search needs)
     returns-2
-    unless-requires
-    given-ok-requires
-    unless-requires-2
-    first-requires
-    first-requires-2
+    (search needs)
+    (search needs)
+    (search needs)
+    (search needs)
+    (search needs)
     returns-3)

@@ -7,20 +7,8 @@ use borrow.Author.Needs.{needs}
 use Rattle.capi.proofs.files.codeplug_header.Statement.{statement}
 use Rattle.capi.proofs.files.codeplug_header.Tie as tie
 
-header-requires : tie.Need-header-requires
-header-requires c κs = search needs
-
-header-told-requires : tie.Need-header-told-requires
-header-told-requires c κs = search needs
-
 put-texts-requires : tie.Need-put-texts-requires
 put-texts-requires c κs = λ good. header-room _ _ (sym (ap (λ (r : HeaderRead). r .verdict) (c .before .before .before .before .header-told .ensures)) ∙ good)
-
-header-taken-requires : tie.Need-header-taken-requires
-header-taken-requires c κs = search needs
-
-same-length : tie.Need-same-length
-same-length c = search needs
 
 returns : tie.Need-returns
 unfolding headerTexts
@@ -33,9 +21,9 @@ pub codeplug-header-spec : {M : Type 1} → statement M
 codeplug-header-spec =
     tie.close
     (tie.spec
-    header-requires
-    header-told-requires
+    (search needs)
+    (search needs)
     put-texts-requires
-    header-taken-requires
-    same-length
+    (search needs)
+    (search needs)
     returns)

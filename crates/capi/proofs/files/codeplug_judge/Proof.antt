@@ -4,15 +4,6 @@ use borrow.Author.Needs.{needs}
 use Rattle.capi.proofs.files.codeplug_judge.Statement.{statement}
 use Rattle.capi.proofs.files.codeplug_judge.Tie as tie
 
-judge-requires : tie.Need-judge-requires
-judge-requires c κs = search needs
-
-enum-known-c : tie.Need-enum-known-c
-enum-known-c c = search needs
-
-enum-known-number : tie.Need-enum-known-number
-enum-known-number c = search needs
-
 returns : tie.Need-returns
 unfolding judgedAnswer
 returns c = rw (← c .before .before .before .judge .ensures, c .before .c .given .1)
@@ -23,4 +14,4 @@ returns-2 c = rw (← c .before .before .before .judge .ensures, c .before .numb
 
 pub codeplug-judge-spec : {M : Type 1} → statement M
 codeplug-judge-spec =
-    tie.close (tie.spec judge-requires enum-known-c enum-known-number returns returns-2)
+    tie.close (tie.spec (search needs) (search needs) (search needs) returns returns-2)

@@ -4,12 +4,6 @@ use borrow.Author.Needs.{needs}
 use Rattle.capi.proofs.tone_table.codeplug_tone_frequency.Statement.{statement}
 use Rattle.capi.proofs.tone_table.codeplug_tone_frequency.Tie as tie
 
-frequency-of-requires : tie.Need-frequency-of-requires
-frequency-of-requires c κs = search needs
-
-enum-known-t : tie.Need-enum-known-t
-enum-known-t c = search needs
-
 enum-told : tie.Need-enum-told
 enum-told c = search needs
 
@@ -23,4 +17,4 @@ returns-2 c = rw (← c .before .before .frequency-of .ensures, c .enum-told .gi
 
 pub codeplug-tone-frequency-spec : {M : Type 1} → statement M
 codeplug-tone-frequency-spec =
-    tie.close (tie.spec frequency-of-requires enum-known-t enum-told returns returns-2)
+    tie.close (tie.spec (search needs) (search needs) enum-told returns returns-2)

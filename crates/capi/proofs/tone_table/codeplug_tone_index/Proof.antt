@@ -4,12 +4,6 @@ use borrow.Author.Needs.{needs}
 use Rattle.capi.proofs.tone_table.codeplug_tone_index.Statement.{statement}
 use Rattle.capi.proofs.tone_table.codeplug_tone_index.Tie as tie
 
-index-of-requires : tie.Need-index-of-requires
-index-of-requires c κs = search needs
-
-enum-known-i : tie.Need-enum-known-i
-enum-known-i c = search needs
-
 enum-told : tie.Need-enum-told
 enum-told c = search needs
 
@@ -23,4 +17,4 @@ returns-2 c = rw (← c .before .before .index-of .ensures, c .enum-told .given 
 
 pub codeplug-tone-index-spec : {M : Type 1} → statement M
 codeplug-tone-index-spec =
-    tie.close (tie.spec index-of-requires enum-known-i enum-told returns returns-2)
+    tie.close (tie.spec (search needs) (search needs) enum-told returns returns-2)

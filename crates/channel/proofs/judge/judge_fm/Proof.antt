@@ -1,56 +1,8 @@
 -- The code is the definition's chain, field by field: every call's answer is put in, the last call's first.
-use Rattle.channel.specs.Channel.{fmRule}
+use Rattle.channel.specs.Rule.{fmRule}
 use borrow.Author.Needs.{needs}
 use Rattle.channel.proofs.judge.judge_fm.Statement.{statement}
 use Rattle.channel.proofs.judge.judge_fm.Tie as tie
-
-byte-at-requires : tie.Need-byte-at-requires
-byte-at-requires c κs = search needs
-
-tone-ok-requires : tie.Need-tone-ok-requires
-tone-ok-requires c κs = search needs
-
-field-requires : tie.Need-field-requires
-field-requires c κs = search needs
-
-byte-at-requires-2 : tie.Need-byte-at-requires-2
-byte-at-requires-2 c κs = search needs
-
-tone-ok-requires-2 : tie.Need-tone-ok-requires-2
-tone-ok-requires-2 c κs = search needs
-
-field-requires-2 : tie.Need-field-requires-2
-field-requires-2 c κs = search needs
-
-byte-at-requires-3 : tie.Need-byte-at-requires-3
-byte-at-requires-3 c κs = search needs
-
-field-requires-3 : tie.Need-field-requires-3
-field-requires-3 c κs = search needs
-
-byte-at-requires-4 : tie.Need-byte-at-requires-4
-byte-at-requires-4 c κs = search needs
-
-field-requires-4 : tie.Need-field-requires-4
-field-requires-4 c κs = search needs
-
-byte-at-requires-5 : tie.Need-byte-at-requires-5
-byte-at-requires-5 c κs = search needs
-
-field-requires-5 : tie.Need-field-requires-5
-field-requires-5 c κs = search needs
-
-first-requires : tie.Need-first-requires
-first-requires c κs = search needs
-
-first-requires-2 : tie.Need-first-requires-2
-first-requires-2 c κs = search needs
-
-first-requires-3 : tie.Need-first-requires-3
-first-requires-3 c κs = search needs
-
-first-requires-4 : tie.Need-first-requires-4
-first-requires-4 c κs = search needs
 
 returns : tie.Need-returns
 unfolding fmRule
@@ -81,20 +33,20 @@ pub judge-fm-spec : {M : Type 1} → statement M
 judge-fm-spec =
     tie.close
     (tie.spec
-    byte-at-requires
-    tone-ok-requires
-    field-requires
-    byte-at-requires-2
-    tone-ok-requires-2
-    field-requires-2
-    byte-at-requires-3
-    field-requires-3
-    byte-at-requires-4
-    field-requires-4
-    byte-at-requires-5
-    field-requires-5
-    first-requires
-    first-requires-2
-    first-requires-3
-    first-requires-4
+    (search needs)
+    (search needs)
+    (search needs)
+    (search needs)
+    (search needs)
+    (search needs)
+    (search needs)
+    (search needs)
+    (search needs)
+    (search needs)
+    (search needs)
+    (search needs)
+    (search needs)
+    (search needs)
+    (search needs)
+    (search needs)
     returns)

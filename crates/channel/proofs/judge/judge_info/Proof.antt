@@ -1,16 +1,10 @@
 -- Each mode's fields, by the definition's tests on the mode.
-use Rattle.channel.specs.Channel.{infoRule}
+use Rattle.channel.specs.Rule.{infoRule}
 use borrow.Author.Tests.{eq-eqb, ne-eqb}
 use native.Mathlib.Omega.{arith}
 use borrow.Author.Needs.{needs}
 use Rattle.channel.proofs.judge.judge_info.Statement.{statement}
 use Rattle.channel.proofs.judge.judge_info.Tie as tie
-
-byte-at-requires : tie.Need-byte-at-requires
-byte-at-requires c κs = search needs
-
-judge-fm-requires : tie.Need-judge-fm-requires
-judge-fm-requires c κs = search needs
 
 returns : tie.Need-returns
 unfolding infoRule
@@ -18,17 +12,11 @@ returns c =
     let m = c .before .before .byte-at in
     rw (← m .ensures, eq-eqb (m .result) 0 (omega arith)) (c .judge-fm .ensures)
 
-judge-dmr-requires : tie.Need-judge-dmr-requires
-judge-dmr-requires c κs = search needs
-
 returns-2 : tie.Need-returns-2
 unfolding infoRule
 returns-2 c =
     let m = c .before .before .before .byte-at in
     rw (← m .ensures, ne-eqb (m .result) 0 (omega arith), eq-eqb (m .result) 1 (omega arith)) (c .judge-dmr .ensures)
-
-judge-m17-requires : tie.Need-judge-m17-requires
-judge-m17-requires c κs = search needs
 
 returns-3 : tie.Need-returns-3
 unfolding infoRule
@@ -40,10 +28,10 @@ pub judge-info-spec : {M : Type 1} → statement M
 judge-info-spec =
     tie.close
     (tie.spec
-    byte-at-requires
-    judge-fm-requires
+    (search needs)
+    (search needs)
     returns
-    judge-dmr-requires
+    (search needs)
     returns-2
-    judge-m17-requires
+    (search needs)
     returns-3)

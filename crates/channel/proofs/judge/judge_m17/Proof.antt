@@ -1,41 +1,8 @@
 -- The code is the definition's chain, field by field: every call's answer is put in, the last call's first.
-use Rattle.channel.specs.Channel.{m17Rule}
+use Rattle.channel.specs.Rule.{m17Rule}
 use borrow.Author.Needs.{needs}
 use Rattle.channel.proofs.judge.judge_m17.Statement.{statement}
 use Rattle.channel.proofs.judge.judge_m17.Tie as tie
-
-byte-at-requires : tie.Need-byte-at-requires
-byte-at-requires c κs = search needs
-
-halves-of-requires : tie.Need-halves-of-requires
-halves-of-requires c κs = search needs
-
-field-requires : tie.Need-field-requires
-field-requires c κs = search needs
-
-operation-ok-requires : tie.Need-operation-ok-requires
-operation-ok-requires c κs = search needs
-
-field-requires-2 : tie.Need-field-requires-2
-field-requires-2 c κs = search needs
-
-byte-at-requires-2 : tie.Need-byte-at-requires-2
-byte-at-requires-2 c κs = search needs
-
-field-requires-3 : tie.Need-field-requires-3
-field-requires-3 c κs = search needs
-
-field-requires-4 : tie.Need-field-requires-4
-field-requires-4 c κs = search needs
-
-first-requires : tie.Need-first-requires
-first-requires c κs = search needs
-
-first-requires-2 : tie.Need-first-requires-2
-first-requires-2 c κs = search needs
-
-first-requires-3 : tie.Need-first-requires-3
-first-requires-3 c κs = search needs
 
 returns : tie.Need-returns
 unfolding m17Rule
@@ -60,15 +27,15 @@ pub judge-m17-spec : {M : Type 1} → statement M
 judge-m17-spec =
     tie.close
     (tie.spec
-    byte-at-requires
-    halves-of-requires
-    field-requires
-    operation-ok-requires
-    field-requires-2
-    byte-at-requires-2
-    field-requires-3
-    field-requires-4
-    first-requires
-    first-requires-2
-    first-requires-3
+    (search needs)
+    (search needs)
+    (search needs)
+    (search needs)
+    (search needs)
+    (search needs)
+    (search needs)
+    (search needs)
+    (search needs)
+    (search needs)
+    (search needs)
     returns)

@@ -1,14 +1,11 @@
 -- Each variant's number is the definition's.
-use Rattle.channel.specs.Channel.{contactIndexNumber}
+use Rattle.channel.specs.Values.{contactIndexNumber}
 use borrow.Author.Needs.{needs}
 use Rattle.channel.proofs.values.contact_index_number.Statement.{statement}
 use Rattle.channel.proofs.values.contact_index_number.Tie as tie
 
 enum-told : tie.Need-enum-told
 enum-told c = search needs
-
-enum-known-c : tie.Need-enum-known-c
-enum-known-c c = search needs
 
 returns : tie.Need-returns
 unfolding contactIndexNumber
@@ -19,4 +16,4 @@ unfolding contactIndexNumber
 returns-2 c = rw (c .before .c .given .1)
 
 pub contact-index-number-spec : {M : Type 1} → statement M
-contact-index-number-spec = tie.close (tie.spec enum-told enum-known-c returns returns-2)
+contact-index-number-spec = tie.close (tie.spec enum-told (search needs) returns returns-2)

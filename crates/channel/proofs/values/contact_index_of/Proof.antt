@@ -1,5 +1,5 @@
 -- The test is the definition's.
-use Rattle.channel.specs.Channel.{contactIndexOf}
+use Rattle.channel.specs.Values.{contactIndexOf}
 use borrow.Author.Tests.{eq-eqb, ne-eqb}
 use native.Mathlib.Omega.{arith}
 use Rattle.channel.proofs.values.contact_index_of.Statement.{statement}

@@ -1,6 +1,6 @@
 -- The test is the definition's.
 use mathlib.Core.Path.{refl}
-use Rattle.channel.specs.Channel.{fractionOk}
+use Rattle.channel.specs.Values.{fractionOk}
 use Rattle.channel.proofs.values.fraction_ok.Statement.{statement}
 use Rattle.channel.proofs.values.fraction_ok.Tie as tie
 

@@ -1,7 +1,7 @@
 -- Of the floor's byte 90 the ten-thousandths are 0; of any other they are a fraction.
 use mathlib.Core.Path.{sym}
 use Rattle.channel.proofs.Laws.{fraction-ninety, fraction-other}
-use Rattle.channel.specs.Channel.{fractionOk}
+use Rattle.channel.specs.Values.{fractionOk}
 use native.Mathlib.Omega.{arith}
 use Rattle.channel.proofs.values.latitude_fraction_ok.Statement.{statement}
 use Rattle.channel.proofs.values.latitude_fraction_ok.Tie as tie

@@ -3,7 +3,7 @@ use mathlib.Core.Path.{_≡_, _∙_}
 use mathlib.Core.Logic.{⊎-elim}
 use borrow.Author.Tests.{le-leb, lt-leb}
 use native.Mathlib.Omega.{arith}
-use Rattle.channel.specs.Channel.{operationOk, encryptionOk}
+use Rattle.channel.specs.Values.{operationOk, encryptionOk}
 use Rattle.channel.proofs.values.operation_ok.Statement.{statement}
 use Rattle.channel.proofs.values.operation_ok.Tie as tie
 

@@ -1,5 +1,5 @@
 -- The tests are the definition's.
-use Rattle.channel.specs.Channel.{slotOk}
+use Rattle.channel.specs.Values.{slotOk}
 use borrow.Author.Tests.{le-leb, lt-leb}
 use native.Mathlib.Omega.{arith}
 use Rattle.channel.proofs.values.slot_ok.Statement.{statement}

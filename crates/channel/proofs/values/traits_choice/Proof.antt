@@ -1,6 +1,6 @@
 -- The record is the definition's.
 use mathlib.Core.Path.{refl}
-use Rattle.channel.specs.Channel.{traitsChoice}
+use Rattle.channel.specs.Values.{traitsChoice}
 use Rattle.channel.proofs.values.traits_choice.Statement.{statement}
 use Rattle.channel.proofs.values.traits_choice.Tie as tie
 

@@ -1,15 +1,12 @@
 -- The fields are the choice's.
-use Rattle.channel.specs.Channel.{traitsOf}
+use Rattle.channel.specs.Values.{traitsOf}
 use borrow.Author.Needs.{needs}
 use Rattle.channel.proofs.values.traits_of.Statement.{statement}
 use Rattle.channel.proofs.values.traits_of.Tie as tie
-
-choice-of-requires : tie.Need-choice-of-requires
-choice-of-requires c κs = search needs
 
 returns : tie.Need-returns
 unfolding traitsOf
 returns c = rw (c .choice-of .ensures)
 
 pub traits-of-spec : {M : Type 1} → statement M
-traits-of-spec = tie.close (tie.spec choice-of-requires returns)
+traits-of-spec = tie.close (tie.spec (search needs) returns)

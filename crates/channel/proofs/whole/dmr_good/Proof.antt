@@ -1,18 +1,9 @@
 -- Every field lies inside a whole record, so what is left of the rule is its tests.
 use Rattle.fields.proofs.Laws.{good-both, good-field}
-use Rattle.channel.specs.Channel.{dmrRule}
+use Rattle.channel.specs.Rule.{dmrRule}
 use borrow.Author.Needs.{needs}
 use Rattle.channel.proofs.whole.dmr_good.Statement.{statement}
 use Rattle.channel.proofs.whole.dmr_good.Tie as tie
-
-shared-slice-read-slot-ok : tie.Need-shared-slice-read-slot-ok
-shared-slice-read-slot-ok c = search needs
-
-slot-ok-requires : tie.Need-slot-ok-requires
-slot-ok-requires c κs = search needs
-
-shared-slice-read-result : tie.Need-shared-slice-read-result
-shared-slice-read-result c = search needs
 
 returns : tie.Need-returns
 unfolding dmrRule
@@ -23,4 +14,4 @@ returns c base =
 pub dmr-good-spec : {M : Type 1} → statement M
 dmr-good-spec =
     tie.close
-    (tie.spec shared-slice-read-slot-ok slot-ok-requires shared-slice-read-result returns)
+    (tie.spec (search needs) (search needs) (search needs) returns)

@@ -1,21 +1,9 @@
 -- A chain is good where all its parts are.
 use Rattle.fields.proofs.Laws.{good-both}
-use Rattle.channel.specs.Channel.{channelRule}
+use Rattle.channel.specs.Rule.{channelRule}
 use borrow.Author.Needs.{needs}
 use Rattle.channel.proofs.whole.good.Statement.{statement}
 use Rattle.channel.proofs.whole.good.Tie as tie
-
-head-good-requires : tie.Need-head-good-requires
-head-good-requires c κs = search needs
-
-texts-good-requires : tie.Need-texts-good-requires
-texts-good-requires c κs = search needs
-
-location-good-requires : tie.Need-location-good-requires
-location-good-requires c κs = search needs
-
-info-good-requires : tie.Need-info-good-requires
-info-good-requires c κs = search needs
 
 returns : tie.Need-returns
 unfolding channelRule
@@ -32,8 +20,8 @@ pub good-spec : {M : Type 1} → statement M
 good-spec =
     tie.close
     (tie.spec
-    head-good-requires
-    texts-good-requires
-    location-good-requires
-    info-good-requires
+    (search needs)
+    (search needs)
+    (search needs)
+    (search needs)
     returns)

@@ -9,17 +9,8 @@ use borrow.Author.Needs.{needs}
 use Rattle.codeplug.proofs.bank_entries.entries.Statement.{statement}
 use Rattle.codeplug.proofs.bank_entries.entries.Tie as tie
 
-bank-count-requires : tie.Need-bank-count-requires
-bank-count-requires c κs = search needs
-
-place-requires : tie.Need-place-requires
-place-requires c κs = search needs
-
 enum-told : tie.Need-enum-told
 enum-told c = search needs
-
-entries-of-requires : tie.Need-entries-of-requires
-entries-of-requires c κs = search needs
 
 returns : tie.Need-returns
 unfolding entriesRead
@@ -31,20 +22,11 @@ returns c =
     ∙ entries-same _ f 0 (bankPlace f (a .n)) (λ g. never (c .before .enum-told .given .1) g)
     ∙ rw (e .place .ensures, e .before .bank-count .ensures .0)
 
-enum-told-2 : tie.Need-enum-told-2
-enum-told-2 c = search needs
-
 offset-place-requires : tie.Need-offset-place-requires
 offset-place-requires c κs =
     let e = c .before .before in
     let a = e .before .before .before .args in
     omega (arith, place-good (a .f .now) (a .n) _ (sym (e .place .ensures) ∙ c .enum-told2 .given .1) .below)
-
-offset-leads-requires : tie.Need-offset-leads-requires
-offset-leads-requires c κs = search needs
-
-entries-of-requires-2 : tie.Need-entries-of-requires-2
-entries-of-requires-2 c κs = search needs
 
 returns-2 : tie.Need-returns-2
 unfolding entriesRead tablePlace
@@ -62,13 +44,13 @@ pub entries-spec : {M : Type 1} → statement M
 entries-spec =
     tie.close
     (tie.spec
-    bank-count-requires
-    place-requires
+    (search needs)
+    (search needs)
     enum-told
-    entries-of-requires
+    (search needs)
     returns
-    enum-told-2
+    (search needs)
     offset-place-requires
-    offset-leads-requires
-    entries-of-requires-2
+    (search needs)
+    (search needs)
     returns-2)

@@ -7,27 +7,9 @@ use Rattle.codeplug.proofs.bank_entries.entries_of.Tie as tie
 enum-told : tie.Need-enum-told
 enum-told c = search needs
 
-slice-aggregate-result : tie.Need-slice-aggregate-result
-slice-aggregate-result c = search needs
-
 returns : tie.Need-returns
 unfolding entriesAnswer
 returns c = rw (c .before .enum-told .given .1)
-
-enum-told-2 : tie.Need-enum-told-2
-enum-told-2 c = search needs
-
-add-lend : tie.Need-add-lend
-add-lend c = search needs
-
-entry-count-requires : tie.Need-entry-count-requires
-entry-count-requires c κs = search needs
-
-mul-lend : tie.Need-mul-lend
-mul-lend c = search needs
-
-lend-requires : tie.Need-lend-requires
-lend-requires c κs = search needs
 
 returns-2 : tie.Need-returns-2
 unfolding entriesAnswer
@@ -38,11 +20,11 @@ entries-of-spec =
     tie.close
     (tie.spec
     enum-told
-    slice-aggregate-result
+    (search needs)
     returns
-    enum-told-2
-    add-lend
-    entry-count-requires
-    mul-lend
-    lend-requires
+    (search needs)
+    (search needs)
+    (search needs)
+    (search needs)
+    (search needs)
     returns-2)

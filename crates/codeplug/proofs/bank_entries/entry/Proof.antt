@@ -11,12 +11,6 @@ use borrow.Author.Needs.{needs}
 use Rattle.codeplug.proofs.bank_entries.entry.Statement.{statement}
 use Rattle.codeplug.proofs.bank_entries.entry.Tie as tie
 
-bank-count-requires : tie.Need-bank-count-requires
-bank-count-requires c κs = search needs
-
-place-requires : tie.Need-place-requires
-place-requires c κs = search needs
-
 enum-told : tie.Need-enum-told
 enum-told c = search needs
 
@@ -25,18 +19,6 @@ offset-place-requires c κs =
     let e = c .before .before in
     let a = e .before .before .before .args in
     omega (arith, place-good (a .f .now) (a .n) _ (sym (e .place .ensures) ∙ c .enum-told .given .1) .below)
-
-offset-leads-requires : tie.Need-offset-leads-requires
-offset-leads-requires c κs = search needs
-
-entries-of-requires : tie.Need-entries-of-requires
-entries-of-requires c κs = search needs
-
-entry-requires : tie.Need-entry-requires
-entry-requires c κs = search needs
-
-enum-known-verdict : tie.Need-enum-known-verdict
-enum-known-verdict c = search needs
 
 returns : tie.Need-returns
 unfolding entryRead entryAnswer entriesRead tablePlace
@@ -62,13 +44,13 @@ pub entry-spec : {M : Type 1} → statement M
 entry-spec =
     tie.close
     (tie.spec
-    bank-count-requires
-    place-requires
+    (search needs)
+    (search needs)
     enum-told
     offset-place-requires
-    offset-leads-requires
-    entries-of-requires
-    entry-requires
-    enum-known-verdict
+    (search needs)
+    (search needs)
+    (search needs)
+    (search needs)
     returns
     returns-2)

@@ -3,14 +3,8 @@ use borrow.Author.Needs.{needs}
 use Rattle.codeplug.proofs.bank_entries.verdict.Statement.{statement}
 use Rattle.codeplug.proofs.bank_entries.verdict.Tie as tie
 
-bank-count-requires : tie.Need-bank-count-requires
-bank-count-requires c κs = search needs
-
-place-requires : tie.Need-place-requires
-place-requires c κs = search needs
-
 returns : tie.Need-returns
 returns c = rw (c .place .ensures, c .before .bank-count .ensures .0)
 
 pub verdict-spec : {M : Type 1} → statement M
-verdict-spec = tie.close (tie.spec bank-count-requires place-requires returns)
+verdict-spec = tie.close (tie.spec (search needs) (search needs) returns)

@@ -9,9 +9,6 @@ use borrow.Author.Needs.{needs}
 use Rattle.codeplug.proofs.once.bank.Statement.{statement}
 use Rattle.codeplug.proofs.once.bank.Tie as tie
 
-bank-verdict-requires : tie.Need-bank-verdict-requires
-bank-verdict-requires c κs = search needs
-
 enum-told : tie.Need-enum-told
 enum-told c = search needs
 
@@ -28,21 +25,12 @@ returns c =
     ∙ bank-same _ f (part f (tablePlace f (a .n)) 34) (λ g. never (c .before .enum-told .given .1) g)
     ∙ rw (e .bank-verdict .ensures)
 
-enum-told-2 : tie.Need-enum-told-2
-enum-told-2 c = search needs
-
 offset-place-requires : tie.Need-offset-place-requires
 offset-place-requires c κs =
     let e = c .before .before in
     let f = e .before .before .args .f .now in
     let good = once-good f (e .before .before .args .n) (sym (e .bank-verdict .ensures) ∙ c .enum-told2 .given .1) in
     omega (arith, good .below, bankCount-lt f (λ i. e .before .shared-slice-known .given i .fits))
-
-offset-leads-requires : tie.Need-offset-leads-requires
-offset-leads-requires c κs = search needs
-
-lend-requires : tie.Need-lend-requires
-lend-requires c κs = search needs
 
 bank-answer-requires-2 : tie.Need-bank-answer-requires-2
 unfolding tablePlace
@@ -68,13 +56,13 @@ pub bank-spec : {M : Type 1} → statement M
 bank-spec =
     tie.close
     (tie.spec
-    bank-verdict-requires
+    (search needs)
     enum-told
     bank-answer-requires
     returns
-    enum-told-2
+    (search needs)
     offset-place-requires
-    offset-leads-requires
-    lend-requires
+    (search needs)
+    (search needs)
     bank-answer-requires-2
     returns-2)

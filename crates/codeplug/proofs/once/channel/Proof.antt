@@ -5,14 +5,12 @@ use Rattle.fields.specs.declared.rule.Verdict.the-variants.{Refused}
 use Rattle.fields.specs.Bytes.{part}
 use Rattle.layout.specs.Places.{channelCount, channelPlace}
 use Rattle.codeplug.specs.Once.{channelOnce}
-use Rattle.codeplug.proofs.Laws.{channel-whole, place-below, place-past, never, channel-same}
+use Rattle.validation.proofs.Laws.{channel-whole}
+use Rattle.codeplug.proofs.Laws.{place-below, place-past, never, channel-same}
 use native.Mathlib.Omega.{arith}
 use borrow.Author.Needs.{needs}
 use Rattle.codeplug.proofs.once.channel.Statement.{statement}
 use Rattle.codeplug.proofs.once.channel.Tie as tie
-
-channel-count-requires : tie.Need-channel-count-requires
-channel-count-requires c κs = search needs
 
 answer-requires : tie.Need-answer-requires
 answer-requires c κs = λ g. never refl g
@@ -26,15 +24,6 @@ returns c =
     c .answer .ensures
     ∙ channel-same (Refused 33 0) f (part f (channelPlace f (a .n)) 90) (λ g. never refl g)
     ∙ rw (place-past (a .n) (channelCount f) _ h)
-
-channel-place-requires : tie.Need-channel-place-requires
-channel-place-requires c κs = search needs
-
-channel-at-requires : tie.Need-channel-at-requires
-channel-at-requires c κs = search needs
-
-lend-requires : tie.Need-lend-requires
-lend-requires c κs = search needs
 
 answer-requires-2 : tie.Need-answer-requires-2
 answer-requires-2 c κs =
@@ -58,11 +47,11 @@ pub channel-spec : {M : Type 1} → statement M
 channel-spec =
     tie.close
     (tie.spec
-    channel-count-requires
+    (search needs)
     answer-requires
     returns
-    channel-place-requires
-    channel-at-requires
-    lend-requires
+    (search needs)
+    (search needs)
+    (search needs)
     answer-requires-2
     returns-2)

@@ -5,14 +5,12 @@ use Rattle.fields.specs.declared.rule.Verdict.the-variants.{Refused}
 use Rattle.fields.specs.Bytes.{part}
 use Rattle.layout.specs.Places.{contactCount, contactPlace}
 use Rattle.codeplug.specs.Once.{contactOnce}
-use Rattle.codeplug.proofs.Laws.{contact-whole, place-below, place-past, never, contact-same}
+use Rattle.validation.proofs.Laws.{contact-whole}
+use Rattle.codeplug.proofs.Laws.{place-below, place-past, never, contact-same}
 use native.Mathlib.Omega.{arith}
 use borrow.Author.Needs.{needs}
 use Rattle.codeplug.proofs.once.contact.Statement.{statement}
 use Rattle.codeplug.proofs.once.contact.Tie as tie
-
-contact-count-requires : tie.Need-contact-count-requires
-contact-count-requires c κs = search needs
 
 answer-requires : tie.Need-answer-requires
 answer-requires c κs = λ g. never refl g
@@ -26,15 +24,6 @@ returns c =
     c .answer .ensures
     ∙ contact-same (Refused 33 0) f (part f (contactPlace (a .n)) 39) (λ g. never refl g)
     ∙ rw (place-past (a .n) (contactCount f) _ h)
-
-contact-place-requires : tie.Need-contact-place-requires
-contact-place-requires c κs = search needs
-
-contact-at-requires : tie.Need-contact-at-requires
-contact-at-requires c κs = search needs
-
-lend-requires : tie.Need-lend-requires
-lend-requires c κs = search needs
 
 answer-requires-2 : tie.Need-answer-requires-2
 answer-requires-2 c κs =
@@ -58,11 +47,11 @@ pub contact-spec : {M : Type 1} → statement M
 contact-spec =
     tie.close
     (tie.spec
-    contact-count-requires
+    (search needs)
     answer-requires
     returns
-    contact-place-requires
-    contact-at-requires
-    lend-requires
+    (search needs)
+    (search needs)
+    (search needs)
     answer-requires-2
     returns-2)

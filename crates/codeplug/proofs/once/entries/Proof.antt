@@ -8,14 +8,8 @@ use borrow.Author.Needs.{needs}
 use Rattle.codeplug.proofs.once.entries.Statement.{statement}
 use Rattle.codeplug.proofs.once.entries.Tie as tie
 
-bank-verdict-requires : tie.Need-bank-verdict-requires
-bank-verdict-requires c κs = search needs
-
 enum-told : tie.Need-enum-told
 enum-told c = search needs
-
-entries-of-requires : tie.Need-entries-of-requires
-entries-of-requires c κs = search needs
 
 returns : tie.Need-returns
 unfolding entriesOnce
@@ -27,21 +21,12 @@ returns c =
     ∙ entries-same _ f 0 (tablePlace f (a .n)) (λ g. never (c .before .enum-told .given .1) g)
     ∙ rw (e .bank-verdict .ensures)
 
-enum-told-2 : tie.Need-enum-told-2
-enum-told-2 c = search needs
-
 offset-place-requires : tie.Need-offset-place-requires
 offset-place-requires c κs =
     let e = c .before .before in
     let f = e .before .before .args .f .now in
     let good = once-good f (e .before .before .args .n) (sym (e .bank-verdict .ensures) ∙ c .enum-told2 .given .1) in
     omega (arith, good .below, bankCount-lt f (λ i. e .before .shared-slice-known .given i .fits))
-
-offset-leads-requires : tie.Need-offset-leads-requires
-offset-leads-requires c κs = search needs
-
-entries-of-requires-2 : tie.Need-entries-of-requires-2
-entries-of-requires-2 c κs = search needs
 
 returns-2 : tie.Need-returns-2
 unfolding entriesOnce tablePlace
@@ -58,12 +43,12 @@ pub entries-spec : {M : Type 1} → statement M
 entries-spec =
     tie.close
     (tie.spec
-    bank-verdict-requires
+    (search needs)
     enum-told
-    entries-of-requires
+    (search needs)
     returns
-    enum-told-2
+    (search needs)
     offset-place-requires
-    offset-leads-requires
-    entries-of-requires-2
+    (search needs)
+    (search needs)
     returns-2)

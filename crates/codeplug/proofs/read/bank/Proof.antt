@@ -10,12 +10,6 @@ use borrow.Author.Needs.{needs}
 use Rattle.codeplug.proofs.read.bank.Statement.{statement}
 use Rattle.codeplug.proofs.read.bank.Tie as tie
 
-bank-count-requires : tie.Need-bank-count-requires
-bank-count-requires c κs = search needs
-
-place-requires : tie.Need-place-requires
-place-requires c κs = search needs
-
 enum-told : tie.Need-enum-told
 enum-told c = search needs
 
@@ -32,20 +26,11 @@ returns c =
     ∙ bank-same _ f (part f (bankPlace f (a .n)) 34) (λ g. never (c .before .enum-told .given .1) g)
     ∙ rw (e .place .ensures, e .before .bank-count .ensures .0)
 
-enum-told-2 : tie.Need-enum-told-2
-enum-told-2 c = search needs
-
 offset-place-requires : tie.Need-offset-place-requires
 offset-place-requires c κs =
     let e = c .before .before in
     let a = e .before .before .before .args in
     omega (arith, place-good (a .f .now) (a .n) _ (sym (e .place .ensures) ∙ c .enum-told2 .given .1) .below)
-
-offset-leads-requires : tie.Need-offset-leads-requires
-offset-leads-requires c κs = search needs
-
-lend-requires : tie.Need-lend-requires
-lend-requires c κs = search needs
 
 bank-answer-requires-2 : tie.Need-bank-answer-requires-2
 unfolding tablePlace
@@ -71,14 +56,14 @@ pub bank-spec : {M : Type 1} → statement M
 bank-spec =
     tie.close
     (tie.spec
-    bank-count-requires
-    place-requires
+    (search needs)
+    (search needs)
     enum-told
     bank-answer-requires
     returns
-    enum-told-2
+    (search needs)
     offset-place-requires
-    offset-leads-requires
-    lend-requires
+    (search needs)
+    (search needs)
     bank-answer-requires-2
     returns-2)

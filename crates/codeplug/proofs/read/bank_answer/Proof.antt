@@ -10,12 +10,6 @@ enum-told c = search needs
 bank-of-requires : tie.Need-bank-of-requires
 bank-of-requires c κs = c .before .before .before .pre (c .enum-told .given .1)
 
-enum-known-verdict : tie.Need-enum-known-verdict
-enum-known-verdict c = search needs
-
-blank-bank-requires : tie.Need-blank-bank-requires
-blank-bank-requires c κs = search needs
-
 returns : tie.Need-returns
 unfolding bankAnswer
 returns c = rw (c .before .enum-told .given .1, c .bank-of .ensures)
@@ -27,4 +21,4 @@ returns-2 c = rw (c .before .before .verdict .given .1, c .blank-bank .ensures)
 pub bank-answer-spec : {M : Type 1} → statement M
 bank-answer-spec =
     tie.close
-    (tie.spec enum-told bank-of-requires enum-known-verdict blank-bank-requires returns returns-2)
+    (tie.spec enum-told bank-of-requires (search needs) (search needs) returns returns-2)

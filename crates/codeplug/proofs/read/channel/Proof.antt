@@ -9,12 +9,6 @@ use borrow.Author.Needs.{needs}
 use Rattle.codeplug.proofs.read.channel.Statement.{statement}
 use Rattle.codeplug.proofs.read.channel.Tie as tie
 
-channel-count-requires : tie.Need-channel-count-requires
-channel-count-requires c κs = search needs
-
-place-requires : tie.Need-place-requires
-place-requires c κs = search needs
-
 enum-told : tie.Need-enum-told
 enum-told c = search needs
 
@@ -31,17 +25,11 @@ returns c =
     ∙ channel-same _ f (part f (channelPlace f (a .n)) 90) (λ g. never (c .before .enum-told .given .1) g)
     ∙ rw (e .place .ensures, e .before .channel-count .ensures .0)
 
-enum-told-2 : tie.Need-enum-told-2
-enum-told-2 c = search needs
-
 channel-place-requires : tie.Need-channel-place-requires
 channel-place-requires c κs =
     let e = c .before .before in
     let a = e .before .before .before .args in
     omega (arith, place-good (a .f .now) (a .n) _ (sym (e .place .ensures) ∙ c .enum-told2 .given .1) .below)
-
-lend-requires : tie.Need-lend-requires
-lend-requires c κs = search needs
 
 answer-requires-2 : tie.Need-answer-requires-2
 answer-requires-2 c κs =
@@ -66,13 +54,13 @@ pub channel-spec : {M : Type 1} → statement M
 channel-spec =
     tie.close
     (tie.spec
-    channel-count-requires
-    place-requires
+    (search needs)
+    (search needs)
     enum-told
     answer-requires
     returns
-    enum-told-2
+    (search needs)
     channel-place-requires
-    lend-requires
+    (search needs)
     answer-requires-2
     returns-2)

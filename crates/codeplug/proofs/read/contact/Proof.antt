@@ -9,12 +9,6 @@ use borrow.Author.Needs.{needs}
 use Rattle.codeplug.proofs.read.contact.Statement.{statement}
 use Rattle.codeplug.proofs.read.contact.Tie as tie
 
-contact-count-requires : tie.Need-contact-count-requires
-contact-count-requires c κs = search needs
-
-place-requires : tie.Need-place-requires
-place-requires c κs = search needs
-
 enum-told : tie.Need-enum-told
 enum-told c = search needs
 
@@ -31,17 +25,11 @@ returns c =
     ∙ contact-same _ f (part f (contactPlace (a .n)) 39) (λ g. never (c .before .enum-told .given .1) g)
     ∙ rw (e .place .ensures, e .before .contact-count .ensures .0)
 
-enum-told-2 : tie.Need-enum-told-2
-enum-told-2 c = search needs
-
 contact-place-requires : tie.Need-contact-place-requires
 contact-place-requires c κs =
     let e = c .before .before in
     let a = e .before .before .before .args in
     omega (arith, place-good (a .f .now) (a .n) _ (sym (e .place .ensures) ∙ c .enum-told2 .given .1) .below)
-
-lend-requires : tie.Need-lend-requires
-lend-requires c κs = search needs
 
 answer-requires-2 : tie.Need-answer-requires-2
 answer-requires-2 c κs =
@@ -66,13 +54,13 @@ pub contact-spec : {M : Type 1} → statement M
 contact-spec =
     tie.close
     (tie.spec
-    contact-count-requires
-    place-requires
+    (search needs)
+    (search needs)
     enum-told
     answer-requires
     returns
-    enum-told-2
+    (search needs)
     contact-place-requires
-    lend-requires
+    (search needs)
     answer-requires-2
     returns-2)

@@ -1,15 +1,12 @@
 -- The file's verdict chooses; an accepted file has the 88 bytes.
 use mathlib.Core.Path.{_≡_, sym, _∙_}
 use Rattle.fields.specs.declared.rule.Verdict.the-variants.{Good, Refused}
-use Rattle.codeplug.specs.File.{fileRule}
+use Rattle.validation.specs.File.{fileRule}
 use Rattle.codeplug.specs.Read.{headerAnswer, headerRead}
-use Rattle.codeplug.proofs.Laws.{file-header}
+use Rattle.validation.proofs.Laws.{file-header}
 use borrow.Author.Needs.{needs}
 use Rattle.codeplug.proofs.read.header.Statement.{statement}
 use Rattle.codeplug.proofs.read.header.Tie as tie
-
-verdict-on-requires : tie.Need-verdict-on-requires
-verdict-on-requires c κs = search needs
 
 enum-told : tie.Need-enum-told
 enum-told c = search needs
@@ -18,12 +15,6 @@ header-of-requires : tie.Need-header-of-requires
 header-of-requires c κs =
     let e = c .before .before in
     file-header (e .before .before .args .f .now) (sym (e .verdict-on .ensures) ∙ c .enum-told .given .1)
-
-enum-known-n : tie.Need-enum-known-n
-enum-known-n c = search needs
-
-blank-header-requires : tie.Need-blank-header-requires
-blank-header-requires c κs = search needs
 
 returns : tie.Need-returns
 unfolding headerRead headerAnswer
@@ -43,10 +34,10 @@ pub header-spec : {M : Type 1} → statement M
 header-spec =
     tie.close
     (tie.spec
-    verdict-on-requires
+    (search needs)
     enum-told
     header-of-requires
-    enum-known-n
-    blank-header-requires
+    (search needs)
+    (search needs)
     returns
     returns-2)

@@ -4,18 +4,9 @@ use borrow.Author.Needs.{needs}
 use Rattle.codeplug.proofs.read.place.Statement.{statement}
 use Rattle.codeplug.proofs.read.place.Tie as tie
 
-verdict-on-requires : tie.Need-verdict-on-requires
-verdict-on-requires c κs = search needs
-
-unless-requires : tie.Need-unless-requires
-unless-requires c κs = search needs
-
-first-requires : tie.Need-first-requires
-first-requires c κs = search needs
-
 returns : tie.Need-returns
 unfolding placeRule
 returns c = rw (c .first .ensures, c .before .unless .ensures, c .before .before .verdict-on .ensures)
 
 pub place-spec : {M : Type 1} → statement M
-place-spec = tie.close (tie.spec verdict-on-requires unless-requires first-requires returns)
+place-spec = tie.close (tie.spec (search needs) (search needs) (search needs) returns)

@@ -5,12 +5,6 @@ use borrow.Author.Needs.{needs}
 use Rattle.contact.proofs.judge.judge_info.Statement.{statement}
 use Rattle.contact.proofs.judge.judge_info.Tie as tie
 
-judge-dmr-requires : tie.Need-judge-dmr-requires
-judge-dmr-requires c κs = search needs
-
-judge-m17-requires : tie.Need-judge-m17-requires
-judge-m17-requires c κs = search needs
-
 returns : tie.Need-returns
 returns c = rw (eq-eqb (c .before .before .before .args .mode) 1 (omega arith)) (c .judge-dmr .ensures)
 
@@ -18,4 +12,4 @@ returns-2 : tie.Need-returns-2
 returns-2 c = rw (ne-eqb (c .before .before .before .args .mode) 1 (c .before .if1 .left)) (c .judge-m17 .ensures)
 
 pub judge-info-spec : {M : Type 1} → statement M
-judge-info-spec = tie.close (tie.spec judge-dmr-requires judge-m17-requires returns returns-2)
+judge-info-spec = tie.close (tie.spec (search needs) (search needs) returns returns-2)

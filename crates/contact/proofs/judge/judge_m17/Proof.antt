@@ -8,9 +8,6 @@ use Rattle.fields.proofs.Laws.{field-cut}
 use Rattle.contact.proofs.judge.judge_m17.Statement.{statement}
 use Rattle.contact.proofs.judge.judge_m17.Tie as tie
 
-add-t5 : tie.Need-add-t5
-add-t5 c = search needs
-
 returns : tie.Need-returns
 unfolding m17Rule
 returns c =
@@ -20,16 +17,10 @@ returns c =
 be48-requires : tie.Need-be48-requires
 be48-requires c κs = omega arith
 
-address-ok-requires : tie.Need-address-ok-requires
-address-ok-requires c κs = search needs
-
-field-requires : tie.Need-field-requires
-field-requires c κs = search needs
-
 returns-2 : tie.Need-returns-2
 unfolding m17Rule
 returns-2 c = rw (c .field .ensures, c .before .address-ok .ensures, c .before .before .be48 .ensures .0)
 
 pub judge-m17-spec : {M : Type 1} → statement M
 judge-m17-spec =
-    tie.close (tie.spec add-t5 returns be48-requires address-ok-requires field-requires returns-2)
+    tie.close (tie.spec (search needs) returns be48-requires (search needs) (search needs) returns-2)

@@ -10,12 +10,6 @@ enum-told c = search needs
 contact-of-requires : tie.Need-contact-of-requires
 contact-of-requires c κs = c .before .before .before .pre (c .enum-told .given .1)
 
-enum-known-verdict : tie.Need-enum-known-verdict
-enum-known-verdict c = search needs
-
-blank-requires : tie.Need-blank-requires
-blank-requires c κs = search needs
-
 returns : tie.Need-returns
 unfolding contactAnswer
 returns c = rw (c .before .enum-told .given .1, c .contact-of .ensures)
@@ -27,4 +21,4 @@ returns-2 c = rw (c .before .before .verdict .given .1, c .blank .ensures)
 pub answer-spec : {M : Type 1} → statement M
 answer-spec =
     tie.close
-    (tie.spec enum-told contact-of-requires enum-known-verdict blank-requires returns returns-2)
+    (tie.spec enum-told contact-of-requires (search needs) (search needs) returns returns-2)

@@ -8,24 +8,6 @@ use Rattle.contact.specs.Contact.{infoOf}
 use Rattle.contact.proofs.read.info_of.Statement.{statement}
 use Rattle.contact.proofs.read.info_of.Tie as tie
 
-byte-at-requires : tie.Need-byte-at-requires
-byte-at-requires c κs = search needs
-
-le32-requires : tie.Need-le32-requires
-le32-requires c κs = search needs
-
-byte-at-requires-2 : tie.Need-byte-at-requires-2
-byte-at-requires-2 c κs = search needs
-
-settings-of-requires : tie.Need-settings-of-requires
-settings-of-requires c κs = search needs
-
-be48-requires : tie.Need-be48-requires
-be48-requires c κs = search needs
-
-address-for-requires : tie.Need-address-for-requires
-address-for-requires c κs = search needs
-
 returns : tie.Need-returns
 unfolding infoOf
 returns c =
@@ -45,11 +27,11 @@ pub info-of-spec : {M : Type 1} → statement M
 info-of-spec =
     tie.close
     (tie.spec
-    byte-at-requires
-    le32-requires
-    byte-at-requires-2
-    settings-of-requires
-    be48-requires
-    address-for-requires
+    (search needs)
+    (search needs)
+    (search needs)
+    (search needs)
+    (search needs)
+    (search needs)
     returns
     returns-2)

@@ -5,9 +5,6 @@ use Rattle.contact.proofs.RoundTrip.{good-length}
 use Rattle.contact.proofs.read.read.Statement.{statement}
 use Rattle.contact.proofs.read.read.Tie as tie
 
-judge-requires : tie.Need-judge-requires
-judge-requires c κs = search needs
-
 answer-requires : tie.Need-answer-requires
 answer-requires c κs = λ good. good-length (c .before .before .args .s .now) 0 (sym (c .judge .ensures) ∙ good)
 
@@ -15,4 +12,4 @@ returns : tie.Need-returns
 returns c = rw (c .answer .ensures, c .before .judge .ensures)
 
 pub read-spec : {M : Type 1} → statement M
-read-spec = tie.close (tie.spec judge-requires answer-requires returns)
+read-spec = tie.close (tie.spec (search needs) answer-requires returns)

@@ -4,12 +4,9 @@ use Rattle.contact.specs.Contact.{settingsOf}
 use Rattle.contact.proofs.settings_byte.settings_of.Statement.{statement}
 use Rattle.contact.proofs.settings_byte.settings_of.Tie as tie
 
-choice-of-requires : tie.Need-choice-of-requires
-choice-of-requires c κs = search needs
-
 returns : tie.Need-returns
 unfolding settingsOf
 returns c = rw (c .choice-of .ensures)
 
 pub settings-of-spec : {M : Type 1} → statement M
-settings-of-spec = tie.close (tie.spec choice-of-requires returns)
+settings-of-spec = tie.close (tie.spec (search needs) returns)

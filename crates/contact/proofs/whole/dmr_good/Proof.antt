@@ -5,15 +5,6 @@ use borrow.Author.Needs.{needs}
 use Rattle.contact.proofs.whole.dmr_good.Statement.{statement}
 use Rattle.contact.proofs.whole.dmr_good.Tie as tie
 
-shared-slice-read-choice-ok : tie.Need-shared-slice-read-choice-ok
-shared-slice-read-choice-ok c = search needs
-
-choice-ok-requires : tie.Need-choice-ok-requires
-choice-ok-requires c κs = search needs
-
-shared-slice-read-result : tie.Need-shared-slice-read-result
-shared-slice-read-result c = search needs
-
 returns : tie.Need-returns
 unfolding dmrRule
 returns c base =
@@ -23,4 +14,4 @@ returns c base =
 pub dmr-good-spec : {M : Type 1} → statement M
 dmr-good-spec =
     tie.close
-    (tie.spec shared-slice-read-choice-ok choice-ok-requires shared-slice-read-result returns)
+    (tie.spec (search needs) (search needs) (search needs) returns)

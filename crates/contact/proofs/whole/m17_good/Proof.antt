@@ -5,12 +5,6 @@ use borrow.Author.Needs.{needs}
 use Rattle.contact.proofs.whole.m17_good.Statement.{statement}
 use Rattle.contact.proofs.whole.m17_good.Tie as tie
 
-be48-requires : tie.Need-be48-requires
-be48-requires c κs = search needs
-
-address-ok-requires : tie.Need-address-ok-requires
-address-ok-requires c κs = search needs
-
 returns : tie.Need-returns
 unfolding m17Rule
 returns c base =
@@ -18,4 +12,4 @@ returns c base =
     rw (c .address-ok .ensures, c .before .be48 .ensures .0) (simp (good-field, whole))
 
 pub m17-good-spec : {M : Type 1} → statement M
-m17-good-spec = tie.close (tie.spec be48-requires address-ok-requires returns)
+m17-good-spec = tie.close (tie.spec (search needs) (search needs) returns)

@@ -4,24 +4,6 @@ use Rattle.contact.specs.Contact.{contactGiven}
 use Rattle.contact.proofs.write.given.Statement.{statement}
 use Rattle.contact.proofs.write.given.Tie as tie
 
-unless-requires : tie.Need-unless-requires
-unless-requires c κs = search needs
-
-given-ok-requires : tie.Need-given-ok-requires
-given-ok-requires c κs = search needs
-
-unless-requires-2 : tie.Need-unless-requires-2
-unless-requires-2 c κs = search needs
-
-info-given-requires : tie.Need-info-given-requires
-info-given-requires c κs = search needs
-
-first-requires : tie.Need-first-requires
-first-requires c κs = search needs
-
-first-requires-2 : tie.Need-first-requires-2
-first-requires-2 c κs = search needs
-
 returns : tie.Need-returns
 unfolding contactGiven
 returns c =
@@ -39,10 +21,10 @@ pub given-spec : {M : Type 1} → statement M
 given-spec =
     tie.close
     (tie.spec
-    unless-requires
-    given-ok-requires
-    unless-requires-2
-    info-given-requires
-    first-requires
-    first-requires-2
+    (search needs)
+    (search needs)
+    (search needs)
+    (search needs)
+    (search needs)
+    (search needs)
     returns)

@@ -7,15 +7,6 @@ use Rattle.contact.proofs.Laws.{m17-given, dmr-given, put-m17, put-dmr}
 use Rattle.contact.proofs.write.put_info.Statement.{statement}
 use Rattle.contact.proofs.write.put_info.Tie as tie
 
-enum-known-info : tie.Need-enum-known-info
-enum-known-info c = search needs
-
-put-byte-requires : tie.Need-put-byte-requires
-put-byte-requires c κs = search needs
-
-address-number-requires : tie.Need-address-number-requires
-address-number-requires c κs = search needs
-
 put-be48-requires : tie.Need-put-be48-requires
 put-be48-requires c κs =
     let b = c .before .before .before .before in
@@ -23,29 +14,11 @@ put-be48-requires c κs =
     let e = i .before .before .before in
     (omega arith, rw (c .address-number .ensures) (addressNumber-lt _ (m17-given _ (rw (i .info .given .1) at (e .pre .1 .1)))))
 
-enum-known-info-2 : tie.Need-enum-known-info-2
-enum-known-info-2 c = search needs
-
-put-byte-requires-2 : tie.Need-put-byte-requires-2
-put-byte-requires-2 c κs = search needs
-
-put-le32-requires : tie.Need-put-le32-requires
-put-le32-requires c κs = search needs
-
-choice-of-requires : tie.Need-choice-of-requires
-choice-of-requires c κs = search needs
-
 choice-byte-requires : tie.Need-choice-byte-requires
 choice-byte-requires c κs =
     let i = c .before .before .before .before .before .before .before .before .before .before .before in
     let e = i .before .before .before in
     rw (c .choice-of .ensures) (dmr-given _ (rw (i .info2 .given .1) at (e .pre .1 .1)))
-
-put-byte-requires-3 : tie.Need-put-byte-requires-3
-put-byte-requires-3 c κs = search needs
-
-same-length : tie.Need-same-length
-same-length c = search needs
 
 returns : tie.Need-returns
 returns c =
@@ -56,9 +29,6 @@ returns c =
     rw (i .info .given .1)
     (put-m17 (e .args .dst .now) (p .put-byte .last .0) _ _ _ (e .pre .0) (p .put-byte .ensures) (b .put-be48 .ensures)
     (b .before .address-number .ensures))
-
-same-length-2 : tie.Need-same-length-2
-same-length-2 c = search needs
 
 returns-2 : tie.Need-returns-2
 returns-2 c =
@@ -75,17 +45,17 @@ pub put-info-spec : {M : Type 1} → statement M
 put-info-spec =
     tie.close
     (tie.spec
-    enum-known-info
-    put-byte-requires
-    address-number-requires
+    (search needs)
+    (search needs)
+    (search needs)
     put-be48-requires
-    enum-known-info-2
-    put-byte-requires-2
-    put-le32-requires
-    choice-of-requires
+    (search needs)
+    (search needs)
+    (search needs)
+    (search needs)
     choice-byte-requires
-    put-byte-requires-3
-    same-length
+    (search needs)
+    (search needs)
     returns
-    same-length-2
+    (search needs)
     returns-2)

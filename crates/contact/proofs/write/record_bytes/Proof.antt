@@ -3,19 +3,13 @@ use native.Mathlib.Omega.{arith}
 use borrow.Author.Needs.{needs}
 use Rattle.fields.specs.Bytes.{zeros}
 use Rattle.contact.specs.Contact.{contactBytes}
-use Rattle.fields.proofs.TextLaws.{givenOk-length}
+use Rattle.text.proofs.Laws.{givenOk-length}
 use Rattle.contact.proofs.Laws.{named-length, named-rest, named-name}
 use Rattle.contact.proofs.write.record_bytes.Statement.{statement}
 use Rattle.contact.proofs.write.record_bytes.Tie as tie
 
-slice-aggregate-put : tie.Need-slice-aggregate-put
-slice-aggregate-put c = search needs
-
 put-requires : tie.Need-put-requires
 put-requires c κs = omega (arith, givenOk-length _ (c .before .before .pre .0))
-
-slice-aggregate-put-info : tie.Need-slice-aggregate-put-info
-slice-aggregate-put-info c = search needs
 
 put-info-requires : tie.Need-put-info-requires
 unfolding zeros
@@ -36,4 +30,4 @@ returns c =
 pub record-bytes-spec : {M : Type 1} → statement M
 record-bytes-spec =
     tie.close
-    (tie.spec slice-aggregate-put put-requires slice-aggregate-put-info put-info-requires returns)
+    (tie.spec (search needs) put-requires (search needs) put-info-requires returns)

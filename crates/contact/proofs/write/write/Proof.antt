@@ -5,13 +5,10 @@ use borrow.Author.Needs.{needs}
 use lib.ListN.{length}
 use Rattle.contact.specs.Contact.{contactWritten}
 use Rattle.fields.proofs.Laws.{written-good, written-refused}
-use Rattle.fields.proofs.TextLaws.{givenOk-length}
+use Rattle.text.proofs.Laws.{givenOk-length}
 use Rattle.contact.proofs.Laws.{given-good, length-contactBytes}
 use Rattle.contact.proofs.write.write.Statement.{statement}
 use Rattle.contact.proofs.write.write.Tie as tie
-
-given-requires : tie.Need-given-requires
-given-requires c κs = search needs
 
 enum-told : tie.Need-enum-told
 enum-told c = search needs
@@ -21,9 +18,6 @@ record-bytes-requires c κs =
     let g = given-good _ _ _ (sym (c .before .before .given .ensures) ∙ c .enum-told .given .1) in
     (g .1, g .2)
 
-slice-aggregate-put : tie.Need-slice-aggregate-put
-slice-aggregate-put c = search needs
-
 put-requires : tie.Need-put-requires
 put-requires c κs =
     let r = c .before .before in
@@ -31,12 +25,6 @@ put-requires c κs =
     let a = v .before .before .before .args in
     let g = given-good _ _ _ (sym (v .given .ensures) ∙ r .before .enum-told .given .1) in
     omega (arith, ap length (r .record-bytes .ensures), length-contactBytes (a .name .now) (a .info) (givenOk-length _ (g .1)))
-
-enum-known-verdict : tie.Need-enum-known-verdict
-enum-known-verdict c = search needs
-
-same-length : tie.Need-same-length
-same-length c = search needs
 
 returns : tie.Need-returns
 unfolding contactWritten
@@ -55,12 +43,12 @@ pub write-spec : {M : Type 1} → statement M
 write-spec =
     tie.close
     (tie.spec
-    given-requires
+    (search needs)
     enum-told
     record-bytes-requires
-    slice-aggregate-put
+    (search needs)
     put-requires
-    enum-known-verdict
-    same-length
+    (search needs)
+    (search needs)
     returns
     returns-2)

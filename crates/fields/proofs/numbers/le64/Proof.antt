@@ -5,26 +5,8 @@ use Rattle.fields.proofs.Laws.{num-halves}
 use Rattle.fields.proofs.numbers.le64.Statement.{statement}
 use Rattle.fields.proofs.numbers.le64.Tie as tie
 
-le32-requires : tie.Need-le32-requires
-le32-requires c κs = search needs
-
-cast-low : tie.Need-cast-low
-cast-low c = search needs
-
-add-le32 : tie.Need-add-le32
-add-le32 c = search needs
-
 le32-requires-2 : tie.Need-le32-requires-2
 le32-requires-2 c κs = omega arith
-
-cast-high : tie.Need-cast-high
-cast-high c = search needs
-
-mul-result : tie.Need-mul-result
-mul-result c = search needs
-
-add-result : tie.Need-add-result
-add-result c = search needs
 
 returns : tie.Need-returns
 returns c =
@@ -35,11 +17,11 @@ pub le64-spec : {M : Type 1} → statement M
 le64-spec =
     tie.close
     (tie.spec
-    le32-requires
-    cast-low
-    add-le32
+    (search needs)
+    (search needs)
+    (search needs)
     le32-requires-2
-    cast-high
-    mul-result
-    add-result
+    (search needs)
+    (search needs)
+    (search needs)
     returns)

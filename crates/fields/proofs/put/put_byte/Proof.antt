@@ -4,14 +4,8 @@ use Rattle.fields.proofs.Laws.{over-byte}
 use Rattle.fields.proofs.put.put_byte.Statement.{statement}
 use Rattle.fields.proofs.put.put_byte.Tie as tie
 
-slice-write-dst : tie.Need-slice-write-dst
-slice-write-dst c = search needs
-
-same-length : tie.Need-same-length
-same-length c = search needs
-
 returns : tie.Need-returns
 returns c = over-byte _ _ _ (c .pre)
 
 pub put-byte-spec : {M : Type 1} → statement M
-put-byte-spec = tie.close (tie.spec slice-write-dst same-length returns)
+put-byte-spec = tie.close (tie.spec (search needs) (search needs) returns)

@@ -46,26 +46,11 @@ three c =
 returns : tie.Need-returns
 returns c = read-end (c .before .args .s .now) (c .before .args .k) (omega arith)
 
-shared-slice-read-a : tie.Need-shared-slice-read-a
-shared-slice-read-a c = search needs
-
-cast-t11 : tie.Need-cast-t11
-cast-t11 c = search needs
-
 returns-2 : tie.Need-returns-2
 returns-2 c = read-one (first (c .before)) (omega arith)
 
-sub-if3 : tie.Need-sub-if3
-sub-if3 c = search needs
-
 returns-3 : tie.Need-returns-3
 returns-3 c = read-cut (first (c .before .before)) (omega arith) (omega arith)
-
-add-b : tie.Need-add-b
-add-b c = search needs
-
-shared-slice-read-b : tie.Need-shared-slice-read-b
-shared-slice-read-b c = search needs
 
 returns-4 : tie.Need-returns-4
 returns-4 c = read-zero (first (c .before .before .before .before .before)) (second (c .before .before)) (omega arith) (omega arith)
@@ -73,29 +58,14 @@ returns-4 c = read-zero (first (c .before .before .before .before .before)) (sec
 cast-t16 : tie.Need-cast-t16
 cast-t16 c = omega (arith, first (c .before .before .before .before .before))
 
-cast-t17 : tie.Need-cast-t17
-cast-t17 c = search needs
-
-mul-t18 : tie.Need-mul-t18
-mul-t18 c = search needs
-
 add-t19 : tie.Need-add-t19
 add-t19 c = omega (arith, first (c .before .before .before .before .before), second (c .before .before))
 
 returns-5 : tie.Need-returns-5
 returns-5 c = read-two (first (c .before .before .before .before .before)) (second (c .before .before)) (omega arith) (omega arith) (omega arith)
 
-sub-if6 : tie.Need-sub-if6
-sub-if6 c = search needs
-
 returns-6 : tie.Need-returns-6
 returns-6 c = read-cut-two (first (c .before .before .before .before .before)) (second (c .before .before)) (omega arith) (omega arith) (omega arith)
-
-add-c : tie.Need-add-c
-add-c c = search needs
-
-shared-slice-read-c : tie.Need-shared-slice-read-c
-shared-slice-read-c c = search needs
 
 returns-7 : tie.Need-returns-7
 returns-7 c = read-zero-three (three (c .before)) (omega arith)
@@ -108,12 +78,6 @@ cast-x c = omega (arith, three (c .before .before))
 
 cast-x-2 : tie.Need-cast-x-2
 cast-x-2 c = omega (arith, three (c .before .before))
-
-cast-x-3 : tie.Need-cast-x-3
-cast-x-3 c = search needs
-
-mul-x : tie.Need-mul-x
-mul-x c = search needs
 
 add-x : tie.Need-add-x
 add-x c = omega (arith, three (c .before .before))
@@ -135,29 +99,29 @@ number-at-spec =
     tie.close
     (tie.spec
     returns
-    shared-slice-read-a
-    cast-t11
+    (search needs)
+    (search needs)
     returns-2
-    sub-if3
+    (search needs)
     returns-3
-    add-b
-    shared-slice-read-b
+    (search needs)
+    (search needs)
     returns-4
     cast-t16
-    cast-t17
-    mul-t18
+    (search needs)
+    (search needs)
     add-t19
     returns-5
-    sub-if6
+    (search needs)
     returns-6
-    add-c
-    shared-slice-read-c
+    (search needs)
+    (search needs)
     returns-7
     returns-8
     cast-x
     cast-x-2
-    cast-x-3
-    mul-x
+    (search needs)
+    (search needs)
     add-x
     mul-x-2
     add-x-2

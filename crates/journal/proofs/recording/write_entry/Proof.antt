@@ -42,9 +42,6 @@ put-requires : tie.Need-put-requires
 unfolding Sound spanSize
 put-requires c κs = search needs
 
-same-length : tie.Need-same-length
-same-length c = search needs
-
 returns : tie.Need-returns
 returns c =
     let c₃ = c .before .before .before .before .before .before in
@@ -70,5 +67,5 @@ write-entry-spec =
     put-number-requires-2
     put-number-requires-3
     put-requires
-    same-length
+    (search needs)
     returns)

@@ -33,12 +33,6 @@ none-here c =
 loop-holds : tie.Need-loop-holds Inv-loop μ-loop
 loop-holds c = (omega arith, counted-start (c .before .args .s .now))
 
-entry-at-requires : tie.Need-entry-at-requires Inv-loop μ-loop
-entry-at-requires c κs = search needs
-
-enum-known-e : tie.Need-enum-known-e Inv-loop μ-loop
-enum-known-e c = search needs
-
 add-n : tie.Need-add-n Inv-loop μ-loop
 add-n c = omega arith
 
@@ -70,8 +64,8 @@ entries-in-spec =
     Inv-loop
     μ-loop
     loop-holds
-    entry-at-requires
-    enum-known-e
+    (search needs)
+    (search needs)
     add-n
     loop-less
     loop-again

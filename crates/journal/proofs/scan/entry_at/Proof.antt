@@ -26,12 +26,6 @@ three : (c : tie.After-taken)
     (c .taken .given .0 .1 .0))
 three c = number-here _ _ _ _ (c .before .before .number-at3 .ensures) (c .taken .given .1)
 
-number-at-requires : tie.Need-number-at-requires
-number-at-requires c κs = search needs
-
-enum-known-place : tie.Need-enum-known-place
-enum-known-place c = search needs
-
 enum-told : tie.Need-enum-told
 enum-told c = search needs
 
@@ -43,15 +37,6 @@ returns c =
 add-number-at : tie.Need-add-number-at
 add-number-at c = omega (arith, here-inside (one (c .before)))
 
-number-at-requires-2 : tie.Need-number-at-requires-2
-number-at-requires-2 c κs = search needs
-
-enum-known-put : tie.Need-enum-known-put
-enum-known-put c = search needs
-
-enum-told-2 : tie.Need-enum-told-2
-enum-told-2 c = search needs
-
 returns-2 : tie.Need-returns-2
 returns-2 c = no-put (one (c .before .before .before .before)) (c .before .before .number-at2 .ensures) (c .enum-told2 .given .1)
 
@@ -60,15 +45,6 @@ add-number-at-2 c = omega (arith, here-inside (two (c .before)))
 
 add-number-at-3 : tie.Need-add-number-at-3
 add-number-at-3 c = omega (arith, here-inside (two (c .before)))
-
-number-at-requires-3 : tie.Need-number-at-requires-3
-number-at-requires-3 c κs = search needs
-
-enum-known-taken : tie.Need-enum-known-taken
-enum-known-taken c = search needs
-
-enum-told-3 : tie.Need-enum-told-3
-enum-told-3 c = search needs
 
 returns-3 : tie.Need-returns-3
 returns-3 c = no-taken (one (c .before .before .before .before .before .before .before .before)) (two (c .before .before .before .before)) (c .before .before .number-at3 .ensures) (c .enum-told3 .given .1)
@@ -98,20 +74,20 @@ pub entry-at-spec : {M : Type 1} → statement M
 entry-at-spec =
     tie.close
     (tie.spec
-    number-at-requires
-    enum-known-place
+    (search needs)
+    (search needs)
     enum-told
     returns
     add-number-at
-    number-at-requires-2
-    enum-known-put
-    enum-told-2
+    (search needs)
+    (search needs)
+    (search needs)
     returns-2
     add-number-at-2
     add-number-at-3
-    number-at-requires-3
-    enum-known-taken
-    enum-told-3
+    (search needs)
+    (search needs)
+    (search needs)
     returns-3
     add-body
     add-body-2

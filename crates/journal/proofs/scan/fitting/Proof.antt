@@ -37,12 +37,6 @@ all-bytes c i = c .shared-slice-known .given i .fits
 loop-holds : tie.Need-loop-holds Inv-loop μ-loop
 loop-holds c = (omega arith, fitting-start (c .before .args .s .now) (c .before .args .room) (c .before .pre))
 
-entry-at-requires : tie.Need-entry-at-requires Inv-loop μ-loop
-entry-at-requires c κs = search needs
-
-enum-known-e : tie.Need-enum-known-e Inv-loop μ-loop
-enum-known-e c = search needs
-
 add-entries : tie.Need-add-entries Inv-loop μ-loop
 add-entries c = omega arith
 
@@ -75,8 +69,8 @@ fitting-spec =
     Inv-loop
     μ-loop
     loop-holds
-    entry-at-requires
-    enum-known-e
+    (search needs)
+    (search needs)
     add-entries
     loop-less
     loop-again

@@ -7,18 +7,6 @@ use borrow.Author.Needs.{needs}
 use Rattle.layout.proofs.banks.bank_head.Statement.{statement}
 use Rattle.layout.proofs.banks.bank_head.Tie as tie
 
-lend-requires : tie.Need-lend-requires
-lend-requires c κs = search needs
-
-text-field-requires : tie.Need-text-field-requires
-text-field-requires c κs = search needs
-
-field-requires : tie.Need-field-requires
-field-requires c κs = search needs
-
-first-requires : tie.Need-first-requires
-first-requires c κs = search needs
-
 returns : tie.Need-returns
 unfolding bankHead
 returns c =
@@ -34,4 +22,4 @@ returns c =
 
 pub bank-head-spec : {M : Type 1} → statement M
 bank-head-spec =
-    tie.close (tie.spec lend-requires text-field-requires field-requires first-requires returns)
+    tie.close (tie.spec (search needs) (search needs) (search needs) (search needs) returns)

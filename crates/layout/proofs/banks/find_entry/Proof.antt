@@ -16,9 +16,6 @@ Inv-loop f n start channels i₀ p₀ i p = (i ≤ n) × ((p ≡ start + i * 2) 
 abbrev μ-loop : tie.MeasureT-loop
 μ-loop f n start channels i₀ p₀ i p = n - i
 
-channel-count-requires : tie.Need-channel-count-requires Inv-loop μ-loop
-channel-count-requires c κs = search needs
-
 loop-holds : tie.Need-loop-holds Inv-loop μ-loop
 loop-holds c = (omega arith, (omega arith, rw sub-zero))
 
@@ -33,9 +30,6 @@ returns c =
     let e = c .before .before in
     let l = e .before .before .loop in
     each-bad (entryAt _) _ (l .i) 2 (l .p) _ _ _ _ (omega arith) (l .inv .1 .1) (e .entry-at .ensures) (c .enum-told .given .1)
-
-enum-told-2 : tie.Need-enum-told-2 Inv-loop μ-loop
-enum-told-2 c = search needs
 
 add-i : tie.Need-add-i Inv-loop μ-loop
 add-i c = omega arith
@@ -64,12 +58,12 @@ find-entry-spec =
     (tie.spec
     Inv-loop
     μ-loop
-    channel-count-requires
+    (search needs)
     loop-holds
     entry-at-requires
     enum-told
     returns
-    enum-told-2
+    (search needs)
     add-i
     add-p
     loop-less

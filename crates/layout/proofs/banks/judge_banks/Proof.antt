@@ -17,15 +17,6 @@ Inv-loop f banks i₀ t₀ p₀ i t p =
 abbrev μ-loop : tie.MeasureT-loop
 μ-loop f banks i₀ t₀ p₀ i t p = banks - i
 
-bank-count-requires : tie.Need-bank-count-requires Inv-loop μ-loop
-bank-count-requires c κs = search needs
-
-offset-place-requires : tie.Need-offset-place-requires Inv-loop μ-loop
-offset-place-requires c κs = search needs
-
-banks-place-requires : tie.Need-banks-place-requires Inv-loop μ-loop
-banks-place-requires c κs = search needs
-
 loop-holds : tie.Need-loop-holds Inv-loop μ-loop
 unfolding banksRule
 loop-holds c = (
@@ -56,9 +47,6 @@ returns c =
     let l = e .before .before .loop in
     banks-bad _ _ (l .i) (l .t) (l .p) _ _ _ _ (omega arith) (l .inv .1 .1 .1) (e .bank-at .ensures) (c .enum-told .given .1)
 
-enum-told-2 : tie.Need-enum-told-2 Inv-loop μ-loop
-enum-told-2 c = search needs
-
 next-bank-requires : tie.Need-next-bank-requires Inv-loop μ-loop
 next-bank-requires c κs = omega arith
 
@@ -81,9 +69,6 @@ loop-again c =
     (c .next-bank .ensures .0) in
     (omega arith, (omega arith, (omega arith, next)))
 
-unless-requires : tie.Need-unless-requires Inv-loop μ-loop
-unless-requires c κs = search needs
-
 returns-2 : tie.Need-returns-2 Inv-loop μ-loop
 returns-2 c =
     let l = c .before .before .loop in
@@ -95,18 +80,18 @@ judge-banks-spec =
     (tie.spec
     Inv-loop
     μ-loop
-    bank-count-requires
-    offset-place-requires
-    banks-place-requires
+    (search needs)
+    (search needs)
+    (search needs)
     loop-holds
     bank-at-requires
     enum-told
     returns
-    enum-told-2
+    (search needs)
     next-bank-requires
     add-t
     add-i
     loop-less
     loop-again
-    unless-requires
+    (search needs)
     returns-2)

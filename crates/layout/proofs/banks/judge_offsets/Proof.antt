@@ -16,12 +16,6 @@ Inv-loop f offsets i₀ p₀ i p = (i ≤ offsets) × ((p ≡ p₀ + i * 4) × (
 abbrev μ-loop : tie.MeasureT-loop
 μ-loop f offsets i₀ p₀ i p = offsets - i
 
-bank-count-requires : tie.Need-bank-count-requires Inv-loop μ-loop
-bank-count-requires c κs = search needs
-
-offset-place-requires : tie.Need-offset-place-requires Inv-loop μ-loop
-offset-place-requires c κs = search needs
-
 loop-holds : tie.Need-loop-holds Inv-loop μ-loop
 unfolding offsetsRule
 loop-holds c =
@@ -38,9 +32,6 @@ returns c =
     let e = c .before .before in
     let l = e .before .before .loop in
     each-bad (offsetAt _) _ (l .i) 4 (l .p) _ _ _ _ (omega arith) (l .inv .1 .1) (e .offset-at .ensures) (c .enum-told .given .1)
-
-enum-told-2 : tie.Need-enum-told-2 Inv-loop μ-loop
-enum-told-2 c = search needs
 
 add-i : tie.Need-add-i Inv-loop μ-loop
 add-i c = omega arith
@@ -69,13 +60,13 @@ judge-offsets-spec =
     (tie.spec
     Inv-loop
     μ-loop
-    bank-count-requires
-    offset-place-requires
+    (search needs)
+    (search needs)
     loop-holds
     offset-at-requires
     enum-told
     returns
-    enum-told-2
+    (search needs)
     add-i
     add-p
     loop-less

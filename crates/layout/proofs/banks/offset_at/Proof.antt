@@ -3,14 +3,8 @@ use borrow.Author.Needs.{needs}
 use Rattle.layout.proofs.banks.offset_at.Statement.{statement}
 use Rattle.layout.proofs.banks.offset_at.Tie as tie
 
-lend-requires : tie.Need-lend-requires
-lend-requires c κs = search needs
-
-field-requires : tie.Need-field-requires
-field-requires c κs = search needs
-
 returns : tie.Need-returns
 returns c = rw (c .field .ensures, c .before .lend .ensures)
 
 pub offset-at-spec : {M : Type 1} → statement M
-offset-at-spec = tie.close (tie.spec lend-requires field-requires returns)
+offset-at-spec = tie.close (tie.spec (search needs) (search needs) returns)

@@ -5,15 +5,9 @@ use borrow.Author.Needs.{needs}
 use Rattle.layout.proofs.places.banks_place.Statement.{statement}
 use Rattle.layout.proofs.places.banks_place.Tie as tie
 
-bank-count-requires : tie.Need-bank-count-requires
-bank-count-requires c κs = search needs
-
-offset-place-requires : tie.Need-offset-place-requires
-offset-place-requires c κs = search needs
-
 returns : tie.Need-returns
 unfolding banksPlace
 returns c = (rw (c .offset-place .ensures .0, c .before .bank-count .ensures .0), omega arith)
 
 pub banks-place-spec : {M : Type 1} → statement M
-banks-place-spec = tie.close (tie.spec bank-count-requires offset-place-requires returns)
+banks-place-spec = tie.close (tie.spec (search needs) (search needs) returns)

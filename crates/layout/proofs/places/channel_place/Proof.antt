@@ -5,18 +5,6 @@ use borrow.Author.Needs.{needs}
 use Rattle.layout.proofs.places.channel_place.Statement.{statement}
 use Rattle.layout.proofs.places.channel_place.Tie as tie
 
-contact-count-requires : tie.Need-contact-count-requires
-contact-count-requires c κs = search needs
-
-contact-place-requires : tie.Need-contact-place-requires
-contact-place-requires c κs = search needs
-
-mul-result : tie.Need-mul-result
-mul-result c = search needs
-
-add-result : tie.Need-add-result
-add-result c = search needs
-
 returns : tie.Need-returns
 unfolding channelPlace
 returns c =
@@ -26,4 +14,4 @@ returns c =
 pub channel-place-spec : {M : Type 1} → statement M
 channel-place-spec =
     tie.close
-    (tie.spec contact-count-requires contact-place-requires mul-result add-result returns)
+    (tie.spec (search needs) (search needs) (search needs) (search needs) returns)

@@ -4,15 +4,9 @@ use borrow.Author.Needs.{needs}
 use Rattle.layout.proofs.places.contact_count.Statement.{statement}
 use Rattle.layout.proofs.places.contact_count.Tie as tie
 
-le16-requires : tie.Need-le16-requires
-le16-requires c κs = search needs
-
-cast-result : tie.Need-cast-result
-cast-result c = search needs
-
 returns : tie.Need-returns
 unfolding contactCount
 returns c = search needs
 
 pub contact-count-spec : {M : Type 1} → statement M
-contact-count-spec = tie.close (tie.spec le16-requires cast-result returns)
+contact-count-spec = tie.close (tie.spec (search needs) (search needs) returns)

@@ -4,15 +4,9 @@ use borrow.Author.Needs.{needs}
 use Rattle.layout.proofs.places.contact_place.Statement.{statement}
 use Rattle.layout.proofs.places.contact_place.Tie as tie
 
-mul-result : tie.Need-mul-result
-mul-result c = search needs
-
-add-result : tie.Need-add-result
-add-result c = search needs
-
 returns : tie.Need-returns
 unfolding contactPlace
 returns c = search needs
 
 pub contact-place-spec : {M : Type 1} → statement M
-contact-place-spec = tie.close (tie.spec mul-result add-result returns)
+contact-place-spec = tie.close (tie.spec (search needs) (search needs) returns)

@@ -1,6 +1,6 @@
 -- The rule of the table, by a test that is computed at its 59 entries.
 use Rattle.m17.specs.Address.{digitOf, within}
-use Rattle.m17.proofs.Laws.{every, table-right}
+use Rattle.fields.proofs.TableLaws.{every, table-right}
 use Rattle.m17.proofs.tables.digits.Statement.{statement}
 use Rattle.m17.proofs.tables.digits.Tie as tie
 

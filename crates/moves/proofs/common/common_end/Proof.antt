@@ -15,9 +15,6 @@ Inv-loop a b i₀ i = EndTo a b i
 abbrev μ-loop : tie.MeasureT-loop
 μ-loop a b i₀ i = length a - i
 
-end-chunks-requires : tie.Need-end-chunks-requires Inv-loop μ-loop
-end-chunks-requires c κs = search needs
-
 loop-holds : tie.Need-loop-holds Inv-loop μ-loop
 loop-holds c = c .end-chunks .ensures
 
@@ -77,7 +74,7 @@ common-end-spec =
     (tie.spec
     Inv-loop
     μ-loop
-    end-chunks-requires
+    (search needs)
     loop-holds
     returns
     sub-if2

@@ -15,9 +15,6 @@ Inv-loop a b i₀ i = StartTo a b i
 abbrev μ-loop : tie.MeasureT-loop
 μ-loop a b i₀ i = length a - i
 
-start-chunks-requires : tie.Need-start-chunks-requires Inv-loop μ-loop
-start-chunks-requires c κs = search needs
-
 loop-holds : tie.Need-loop-holds Inv-loop μ-loop
 loop-holds c = c .start-chunks .ensures
 
@@ -65,7 +62,7 @@ common-start-spec =
     (tie.spec
     Inv-loop
     μ-loop
-    start-chunks-requires
+    (search needs)
     loop-holds
     returns
     shared-slice-read-if2

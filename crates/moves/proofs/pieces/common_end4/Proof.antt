@@ -10,9 +10,6 @@ use Rattle.moves.proofs.PieceLaws.{piece-stops, piece-goes, piece-left,
 use Rattle.moves.proofs.pieces.common_end4.Statement.{statement}
 use Rattle.moves.proofs.pieces.common_end4.Tie as tie
 
-common-end-requires : tie.Need-common-end-requires
-common-end-requires c κs = search needs
-
 returns : tie.Need-returns
 returns c =
     let e = c .before .before .before .before .before .before .before .args in
@@ -27,9 +24,6 @@ slice-aggregate-common-end3 : tie.Need-slice-aggregate-common-end3
 slice-aggregate-common-end3 c =
     let s = c .before .before .before .before .before .before .before .before .args .s .now in
     sym (length-take-le (length s - c .before .before .common-end .result) s (omega arith))
-
-common-end3-requires : tie.Need-common-end3-requires
-common-end3-requires c κs = search needs
 
 add-result : tie.Need-add-result
 add-result c =
@@ -46,10 +40,10 @@ pub common-end4-spec : {M : Type 1} → statement M
 common-end4-spec =
     tie.close
     (tie.spec
-    common-end-requires
+    (search needs)
     returns
     sub-common-end3
     slice-aggregate-common-end3
-    common-end3-requires
+    (search needs)
     add-result
     returns-2)

@@ -15,32 +15,11 @@ returns-2 c =
     let e = c .before .before .before .args in
     turned-all (e .d .now) (e .from) (e .n) (e .by) (omega arith) (omega arith)
 
-turn-few-first-requires : tie.Need-turn-few-first-requires
-turn-few-first-requires c κs = search needs
-
-same-length : tie.Need-same-length
-same-length c = search needs
-
 returns-3 : tie.Need-returns-3
 returns-3 c = search needs
 
-sub-if4 : tie.Need-sub-if4
-sub-if4 c = search needs
-
-turn-few-last-requires : tie.Need-turn-few-last-requires
-turn-few-last-requires c κs = search needs
-
-same-length-2 : tie.Need-same-length-2
-same-length-2 c = search needs
-
 returns-4 : tie.Need-returns-4
 returns-4 c = search needs
-
-turn-many-requires : tie.Need-turn-many-requires
-turn-many-requires c κs = search needs
-
-same-length-3 : tie.Need-same-length-3
-same-length-3 c = search needs
 
 returns-5 : tie.Need-returns-5
 returns-5 c = search needs
@@ -51,13 +30,13 @@ turn-spec =
     (tie.spec
     returns
     returns-2
-    turn-few-first-requires
-    same-length
+    (search needs)
+    (search needs)
     returns-3
-    sub-if4
-    turn-few-last-requires
-    same-length-2
+    (search needs)
+    (search needs)
+    (search needs)
     returns-4
-    turn-many-requires
-    same-length-3
+    (search needs)
+    (search needs)
     returns-5)

@@ -7,42 +7,6 @@ use borrow.Author.Needs.{needs}
 use Rattle.moves.proofs.turning.turn_few_first.Statement.{statement}
 use Rattle.moves.proofs.turning.turn_few_first.Tie as tie
 
-slice-aggregate-put : tie.Need-slice-aggregate-put
-slice-aggregate-put c = search needs
-
-add-put : tie.Need-add-put
-add-put c = search needs
-
-sub-put : tie.Need-sub-put
-sub-put c = search needs
-
-part-put-start : tie.Need-part-put-start
-part-put-start c = search needs
-
-part-put-end : tie.Need-part-put-end
-part-put-end c = search needs
-
-put-requires : tie.Need-put-requires
-put-requires c κs = search needs
-
-add-move-down : tie.Need-add-move-down
-add-move-down c = search needs
-
-sub-move-down : tie.Need-sub-move-down
-sub-move-down c = search needs
-
-move-down-requires : tie.Need-move-down-requires
-move-down-requires c κs = search needs
-
-sub-put-2 : tie.Need-sub-put-2
-sub-put-2 c = search needs
-
-add-put-2 : tie.Need-add-put-2
-add-put-2 c = search needs
-
-array-share-prefix-saved : tie.Need-array-share-prefix-saved
-array-share-prefix-saved c = search needs
-
 slice-aggregate-put-2 : tie.Need-slice-aggregate-put-2
 slice-aggregate-put-2 c =
     let e = c .before .before .before .before .before .before .before .before .before .before .before .before .args in
@@ -53,9 +17,6 @@ put-requires-2 c κs =
     let e = c .before .before .before .before .before .before .before .before .before .before .before .before .args in
     let l = length-take-le (e .by) (c .before .before .before .before .before .before .before .put .last .0) (search needs) in
     omega arith
-
-same-length : tie.Need-same-length
-same-length c = search needs
 
 returns : tie.Need-returns
 returns c =
@@ -69,19 +30,19 @@ pub turn-few-first-spec : {M : Type 1} → statement M
 turn-few-first-spec =
     tie.close
     (tie.spec
-    slice-aggregate-put
-    add-put
-    sub-put
-    part-put-start
-    part-put-end
-    put-requires
-    add-move-down
-    sub-move-down
-    move-down-requires
-    sub-put-2
-    add-put-2
-    array-share-prefix-saved
+    (search needs)
+    (search needs)
+    (search needs)
+    (search needs)
+    (search needs)
+    (search needs)
+    (search needs)
+    (search needs)
+    (search needs)
+    (search needs)
+    (search needs)
+    (search needs)
     slice-aggregate-put-2
     put-requires-2
-    same-length
+    (search needs)
     returns)

@@ -6,24 +6,6 @@ use borrow.Author.Needs.{needs}
 use Rattle.moves.proofs.turning.turn_many.Statement.{statement}
 use Rattle.moves.proofs.turning.turn_many.Tie as tie
 
-reverse-requires : tie.Need-reverse-requires
-reverse-requires c κs = search needs
-
-add-reverse : tie.Need-add-reverse
-add-reverse c = search needs
-
-sub-reverse : tie.Need-sub-reverse
-sub-reverse c = search needs
-
-reverse-requires-2 : tie.Need-reverse-requires-2
-reverse-requires-2 c κs = search needs
-
-reverse-requires-3 : tie.Need-reverse-requires-3
-reverse-requires-3 c κs = search needs
-
-same-length : tie.Need-same-length
-same-length c = search needs
-
 returns : tie.Need-returns
 returns c =
     let r = c .before .before .before .before .before .before in
@@ -36,10 +18,10 @@ pub turn-many-spec : {M : Type 1} → statement M
 turn-many-spec =
     tie.close
     (tie.spec
-    reverse-requires
-    add-reverse
-    sub-reverse
-    reverse-requires-2
-    reverse-requires-3
-    same-length
+    (search needs)
+    (search needs)
+    (search needs)
+    (search needs)
+    (search needs)
+    (search needs)
     returns)

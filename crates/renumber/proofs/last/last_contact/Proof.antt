@@ -25,9 +25,6 @@ loop-holds c = (omega arith, (omega arith, last-none _ _ _))
 last-of-channel-requires : tie.Need-last-of-channel-requires Inv-loop μ-loop
 last-of-channel-requires c κs = omega arith
 
-later-requires : tie.Need-later-requires Inv-loop μ-loop
-later-requires c κs = search needs
-
 add-i : tie.Need-add-i Inv-loop μ-loop
 add-i c = omega arith
 
@@ -60,7 +57,7 @@ last-contact-spec =
     μ-loop
     loop-holds
     last-of-channel-requires
-    later-requires
+    (search needs)
     add-i
     add-p
     loop-less

@@ -51,9 +51,6 @@ add-last-of-run c = omega (arith, room c)
 last-of-run-requires : tie.Need-last-of-run-requires Inv-loop μ-loop
 last-of-run-requires c κs = omega (arith, room c)
 
-later-requires : tie.Need-later-requires Inv-loop μ-loop
-later-requires c κs = search needs
-
 add-i : tie.Need-add-i Inv-loop μ-loop
 add-i c = omega arith
 
@@ -95,7 +92,7 @@ last-entry-spec =
     entry-count-requires
     add-last-of-run
     last-of-run-requires
-    later-requires
+    (search needs)
     add-i
     mul-p
     add-p

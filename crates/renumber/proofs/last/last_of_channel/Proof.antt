@@ -8,23 +8,8 @@ use borrow.Author.Needs.{needs}
 use Rattle.renumber.proofs.last.last_of_channel.Statement.{statement}
 use Rattle.renumber.proofs.last.last_of_channel.Tie as tie
 
-shared-slice-read-mode : tie.Need-shared-slice-read-mode
-shared-slice-read-mode c = search needs
-
-add-moves-at : tie.Need-add-moves-at
-add-moves-at c = search needs
-
-moves-at-requires : tie.Need-moves-at-requires
-moves-at-requires c κs = search needs
-
 returns : tie.Need-returns
 returns c = last-from _ _ _ _ _ _ _ (omega arith) (contact-dmr _ _ _ (c .before .if1 .taken) (omega arith)) (c .moves-at .ensures)
-
-add-moves-at-2 : tie.Need-add-moves-at-2
-add-moves-at-2 c = search needs
-
-moves-at-requires-2 : tie.Need-moves-at-requires-2
-moves-at-requires-2 c κs = search needs
 
 returns-2 : tie.Need-returns-2
 returns-2 c = last-from _ _ _ _ _ _ _ (omega arith) (contact-m17 _ _ _ (c .before .if2 .taken) (omega arith)) (c .moves-at2 .ensures)
@@ -37,11 +22,11 @@ pub last-of-channel-spec : {M : Type 1} → statement M
 last-of-channel-spec =
     tie.close
     (tie.spec
-    shared-slice-read-mode
-    add-moves-at
-    moves-at-requires
+    (search needs)
+    (search needs)
+    (search needs)
     returns
-    add-moves-at-2
-    moves-at-requires-2
+    (search needs)
+    (search needs)
     returns-2
     returns-3)

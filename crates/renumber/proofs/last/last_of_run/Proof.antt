@@ -25,9 +25,6 @@ loop-holds c = (omega arith, (omega arith, last-none _ _ _))
 moves-at-requires : tie.Need-moves-at-requires Inv-loop μ-loop
 moves-at-requires c κs = omega arith
 
-later-requires : tie.Need-later-requires Inv-loop μ-loop
-later-requires c κs = search needs
-
 add-i : tie.Need-add-i Inv-loop μ-loop
 add-i c = omega arith
 
@@ -60,7 +57,7 @@ last-of-run-spec =
     μ-loop
     loop-holds
     moves-at-requires
-    later-requires
+    (search needs)
     add-i
     add-p
     loop-less

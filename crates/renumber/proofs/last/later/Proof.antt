@@ -7,9 +7,6 @@ use Rattle.renumber.proofs.last.later.Tie as tie
 enum-told : tie.Need-enum-told
 enum-told c = search needs
 
-enum-known-b : tie.Need-enum-known-b
-enum-known-b c = search needs
-
 returns : tie.Need-returns
 unfolding laterOf
 returns c = rw (c .enum-told .given .1)
@@ -19,4 +16,4 @@ unfolding laterOf
 returns-2 c = rw (c .before .b .given .1)
 
 pub later-spec : {M : Type 1} → statement M
-later-spec = tie.close (tie.spec enum-told enum-known-b returns returns-2)
+later-spec = tie.close (tie.spec enum-told (search needs) returns returns-2)

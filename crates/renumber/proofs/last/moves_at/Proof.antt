@@ -8,12 +8,6 @@ use borrow.Author.Needs.{needs}
 use Rattle.renumber.proofs.last.moves_at.Statement.{statement}
 use Rattle.renumber.proofs.last.moves_at.Tie as tie
 
-le16-requires : tie.Need-le16-requires
-le16-requires c κs = search needs
-
-shifted-requires : tie.Need-shifted-requires
-shifted-requires c κs = search needs
-
 returns : tie.Need-returns
 returns c =
     let s = c .before in
@@ -32,4 +26,4 @@ returns-2 c =
     index-moves (shiftOf (a .s)) (a .f .now) (a .p) _ _ (omega arith) small (x .le16 .ensures) (s .shifted .ensures) (c .if1 .left)
 
 pub moves-at-spec : {M : Type 1} → statement M
-moves-at-spec = tie.close (tie.spec le16-requires shifted-requires returns returns-2)
+moves-at-spec = tie.close (tie.spec (search needs) (search needs) returns returns-2)

@@ -6,31 +6,10 @@ use borrow.Author.Needs.{needs}
 use Rattle.renumber.proofs.moving.move_contact.Statement.{statement}
 use Rattle.renumber.proofs.moving.move_contact.Tie as tie
 
-slice-read-mode : tie.Need-slice-read-mode
-slice-read-mode c = search needs
-
-add-move-index : tie.Need-add-move-index
-add-move-index c = search needs
-
-move-index-requires : tie.Need-move-index-requires
-move-index-requires c κs = search needs
-
-same-length : tie.Need-same-length
-same-length c = search needs
-
 returns : tie.Need-returns
 returns c =
     let m = c .before .before in
     m .move-index .ensures ∙ contact-dmr _ _ _ (m .before .before .if1 .taken) (omega arith)
-
-add-move-index-2 : tie.Need-add-move-index-2
-add-move-index-2 c = search needs
-
-move-index-requires-2 : tie.Need-move-index-requires-2
-move-index-requires-2 c κs = search needs
-
-same-length-2 : tie.Need-same-length-2
-same-length-2 c = search needs
 
 returns-2 : tie.Need-returns-2
 returns-2 c =
@@ -44,13 +23,13 @@ pub move-contact-spec : {M : Type 1} → statement M
 move-contact-spec =
     tie.close
     (tie.spec
-    slice-read-mode
-    add-move-index
-    move-index-requires
-    same-length
+    (search needs)
+    (search needs)
+    (search needs)
+    (search needs)
     returns
-    add-move-index-2
-    move-index-requires-2
-    same-length-2
+    (search needs)
+    (search needs)
+    (search needs)
     returns-2
     returns-3)

@@ -25,9 +25,6 @@ loop-holds c = (omega arith, (omega arith, (omega arith, over-none _ _)))
 le32-requires : tie.Need-le32-requires Inv-loop μ-loop
 le32-requires c κs = omega arith
 
-grown-requires : tie.Need-grown-requires Inv-loop μ-loop
-grown-requires c κs = search needs
-
 put-le32-requires : tie.Need-put-le32-requires Inv-loop μ-loop
 put-le32-requires c κs = omega arith
 
@@ -67,7 +64,7 @@ move-offsets-spec =
     μ-loop
     loop-holds
     le32-requires
-    grown-requires
+    (search needs)
     put-le32-requires
     add-i
     add-p

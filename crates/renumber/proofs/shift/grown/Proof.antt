@@ -5,21 +5,6 @@ use borrow.Author.Needs.{needs}
 use Rattle.renumber.proofs.shift.grown.Statement.{statement}
 use Rattle.renumber.proofs.shift.grown.Tie as tie
 
-enum-known-g : tie.Need-enum-known-g
-enum-known-g c = search needs
-
-cast-result : tie.Need-cast-result
-cast-result c = search needs
-
-add-result : tie.Need-add-result
-add-result c = search needs
-
-cast-result-2 : tie.Need-cast-result-2
-cast-result-2 c = search needs
-
-enum-known-g-2 : tie.Need-enum-known-g-2
-enum-known-g-2 c = search needs
-
 returns : tie.Need-returns
 returns c = grown-none _ _ _ (c .before .before .g2 .given .1) (omega arith)
 
@@ -33,11 +18,11 @@ pub grown-spec : {M : Type 1} → statement M
 grown-spec =
     tie.close
     (tie.spec
-    enum-known-g
-    cast-result
-    add-result
-    cast-result-2
-    enum-known-g-2
+    (search needs)
+    (search needs)
+    (search needs)
+    (search needs)
+    (search needs)
     returns
     returns-2
     returns-3)

@@ -8,20 +8,8 @@ use Rattle.renumber.proofs.shift.shifted.Tie as tie
 returns : tie.Need-returns
 returns c = shift-none (c .before .args .s) (c .before .args .x) (c .if1 .taken)
 
-enum-known-s : tie.Need-enum-known-s
-enum-known-s c = search needs
-
-add-result : tie.Need-add-result
-add-result c = search needs
-
 returns-2 : tie.Need-returns-2
 returns-2 c = raise-up _ _ _ (c .before .before .s .given .1) (c .before .before .before .before .if1 .left) (omega arith)
-
-enum-known-s-2 : tie.Need-enum-known-s-2
-enum-known-s-2 c = search needs
-
-sub-result : tie.Need-sub-result
-sub-result c = search needs
 
 returns-3 : tie.Need-returns-3
 returns-3 c = lower-down _ _ _ (c .before .before .s2 .given .1) (c .before .before .before .before .if1 .left) (omega arith)
@@ -37,11 +25,11 @@ shifted-spec =
     tie.close
     (tie.spec
     returns
-    enum-known-s
-    add-result
+    (search needs)
+    (search needs)
     returns-2
-    enum-known-s-2
-    sub-result
+    (search needs)
+    (search needs)
     returns-3
     returns-4
     returns-5)

@@ -1,0 +1,2 @@
+-- Channels read.
+pub mod Reading

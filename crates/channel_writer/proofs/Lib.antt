@@ -1,0 +1,3 @@
+-- Laws of written channels, and the theorems on reading and writing together.
+pub mod WriteLaws
+pub mod RoundTrip

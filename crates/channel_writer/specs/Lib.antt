@@ -1,0 +1,2 @@
+-- Channels written.
+pub mod Writing

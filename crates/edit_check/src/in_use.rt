@@ -1,0 +1,99 @@
+// Whether a contact or a channel of an accepted file is in use (35).
+use channel::ContactIndex;
+use channel::values::named_contact;
+use fields::numbers::le16;
+use format::sizes::BANK_HEAD_SIZE;
+use format::sizes::CHANNEL_SIZE;
+use layout::banks::entry_count;
+use layout::banks::next_bank;
+use layout::places::bank_count;
+use layout::places::banks_place;
+use layout::places::channel_count;
+use layout::places::channel_place;
+use layout::places::lend;
+use plug::Kind;
+ghost use mathlib.Core.Path.{_≡_};
+ghost use Prim.Native.Nat.{_+_, _*_, _<_, _≤_, _^_};
+ghost use lib.ListN.{length};
+ghost use Rattle.plug.specs.Plug.{plugOf, indexesAt};
+ghost use Rattle.plug.specs.EditRules.{isIndex, someNames, holdsChannel, someHolds, inUse};
+
+pub(crate) fn is_index(c: ContactIndex, i: usize) -> bool
+    ensures { λ r. ⌜ r ≡ isIndex i c ⌝ }
+{
+    match c {
+        ContactIndex::Nobody => false,
+        ContactIndex::Index(x) => x as usize == i,
+    }
+}
+
+// Whether some DMR or M17 channel names contact i.
+pub fn some_names(f: &[u8], i: usize) -> bool
+    ensures { λ r. ⌜ r ≡ someNames i (plugOf (now (f .entry)) .channels) ⌝ }
+{
+    let channels = channel_count(f);
+    let mut n = 0;
+    let mut p = channel_place(f, 0);
+    while n < channels {
+        if is_index(named_contact(lend(f, p, CHANNEL_SIZE)), i) {
+            return true;
+        }
+        n += 1;
+        p += CHANNEL_SIZE;
+    }
+    false
+}
+
+// Whether one of n entries from place p on is channel i.
+fn bank_holds(f: &[u8], n: usize, start: usize, i: usize) -> bool
+    requires { ⌜ (n < 65536) × (start < 2 ^ 50) ⌝ }
+    ensures { λ r. ⌜ r ≡ holdsChannel i (indexesAt (now (f .entry)) n start) ⌝ }
+{
+    let mut j = 0;
+    let mut p = start;
+    while j < n {
+        if le16(f, p) as usize == i {
+            return true;
+        }
+        j += 1;
+        p += 2;
+    }
+    false
+}
+
+// Whether some bank holds channel i.
+pub fn some_holds(f: &[u8], i: usize) -> bool
+    ensures { λ r. ⌜ r ≡ someHolds i (plugOf (now (f .entry)) .banks) ⌝ }
+{
+    let banks = bank_count(f);
+    let mut n = 0;
+    let mut p = banks_place(f);
+    while n < banks {
+        if bank_holds(f, entry_count(f, p), p + BANK_HEAD_SIZE, i) {
+            return true;
+        }
+        p = next_bank(f, p);
+        n += 1;
+    }
+    false
+}
+
+// Whether an edit would remove what is in use.
+pub fn in_use(f: &[u8], k: Kind, i: usize) -> bool
+    ensures { λ r. ⌜ r ≡ inUse k i (plugOf (now (f .entry))) ⌝ }
+{
+    match k {
+        Kind::RemoveContact => some_names(f, i),
+        Kind::RemoveChannel => some_holds(f, i),
+        Kind::InsertContact => false,
+        Kind::ReplaceContact => false,
+        Kind::InsertChannel => false,
+        Kind::ReplaceChannel => false,
+        Kind::InsertBank => false,
+        Kind::RemoveBank => false,
+        Kind::RenameBank => false,
+        Kind::InsertEntry => false,
+        Kind::RemoveEntry => false,
+        Kind::SetHeader => false,
+    }
+}

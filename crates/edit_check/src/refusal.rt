@@ -1,0 +1,59 @@
+// What refuses an edit of an accepted file: 32 to 35, what reading its result gives, 36.
+use crate::in_use::in_use;
+use crate::places::count_ok;
+use crate::places::place_ok;
+use crate::result::result_length;
+use crate::result::result_verdict;
+use fields::rule::Verdict;
+use fields::rule::first;
+use fields::rule::unless;
+use format::refusals::FULL;
+use format::refusals::IN_USE;
+use format::refusals::NO_EDIT;
+use format::refusals::NO_PLACE;
+use format::refusals::NO_ROOM;
+use plug::Kind;
+use plug::record_length;
+ghost use mathlib.Core.Path.{_≡_};
+ghost use mathlib.Core.Bool.{not};
+ghost use lib.ListN.{length};
+ghost use lib.Dec.{eqb};
+ghost use Rattle.fields.specs.Rule.{_then_, unless};
+ghost use Rattle.fields.specs.declared.rule.Verdict.the-variants.{Good};
+ghost use Rattle.validation.specs.File.{fileRule};
+ghost use Rattle.plug.specs.Plug.{plugOf};
+ghost use Rattle.plug.specs.Laid.{Laid};
+ghost use Rattle.plug.specs.Kinds.{recordLength};
+ghost use Rattle.plug.specs.EditRules.{placeOk, countOk, inUse};
+ghost use Rattle.edits.specs.Setting.{refusesKnown};
+
+// What refuses an edit before its result is read.
+fn early_refusal(f: &[u8], k: Kind, i: usize, j: usize, r: &[u8]) -> Verdict
+    requires { ⌜ Laid (now f) ⌝ }
+    ensures { λ v. ⌜ v ≡ unless (eqb (length (now (r .entry))) (recordLength k)) 32 0
+        then unless (placeOk k i j (plugOf (now (f .entry)))) 33 0
+        then unless (countOk k i (plugOf (now (f .entry)))) 34 0
+        then unless (not (inUse k i (plugOf (now (f .entry))))) 35 0 ⌝ }
+{
+    let length = unless(r.len() == record_length(k), NO_EDIT, 0);
+    let place = unless(place_ok(f, k, i, j), NO_PLACE, 0);
+    let count = unless(count_ok(f, k, i), FULL, 0);
+    let used = unless(!in_use(f, k, i), IN_USE, 0);
+    first(length, first(place, first(count, used)))
+}
+
+// 32 (the record's length), 33, 34, 35, what reading the result gives, 36.
+pub fn refusal(f: &[u8], room: usize, k: Kind, i: usize, j: usize, r: &[u8]) -> Verdict
+    requires { ⌜ fileRule (now f) ≡ Good ⌝ }
+    ensures { λ v. ⌜ v ≡ refusesKnown k i j (now (r .entry)) room (now (f .entry)) ⌝ }
+{
+    let early = early_refusal(f, k, i, j, r);
+    if let Verdict::Refused(_, _) = early {
+        return early;
+    }
+    let read = result_verdict(f, k, i, j, r);
+    if let Verdict::Refused(_, _) = read {
+        return read;
+    }
+    unless(result_length(f, k, i) <= room, NO_ROOM, 0)
+}

@@ -1,0 +1,234 @@
+-- Edits 7 to 11: banks inserted, removed and changed. Of the result only the new name or entry can refuse, since every other bank is
+-- good wherever it stands.
+use Prim.Native.Nat.{ℕ, suc, _+_, _*_, _^_, _≤_, _<_}
+use mathlib.Core.Path.{_≡_, ap, _∙_}
+use mathlib.Core.List.{List, [], _∷_, _++_}
+use native.Mathlib.Omega.{arith}
+use lib.ListN.{length, take, drop, getD, length-append}
+use lib.Seq.{drop-cons}
+use lib.Dec.{leb}
+use borrow.Author.Tests.{le-leb}
+use Rattle.fields.specs.Rule.{_then_, unless}
+use Rattle.fields.specs.declared.rule.Verdict.the-variants.{Good}
+use Rattle.fields.proofs.Laws.{then-of-good, unless-passes}
+use Rattle.layout.specs.Banks.{bankPlace}
+use Rattle.validation.specs.File.{fileRule}
+use Rattle.plug.specs.Plug.{Bank, Plug, bankBytes, plugBytes}
+use Rattle.plug.specs.Edits.{insertAt, removeAt, replaceAt, withBanks}
+use Rattle.plug.proofs.Blocks.{Every, every-take, every-drop, banksBytes, banksBytes-cons, banksBytes-append, banksBytes-split, length-bankBytes}
+use Rattle.plug.proofs.Shape.{BankShaped, Shaped, tableStart, length-plug, bank-place}
+use Rattle.plug.proofs.Judged.{bankOk, banksOk, BankGood, banksOk-append, banksOk-passes}
+use Rattle.edits.proofs.Accepted.{Accepted, file-judged, contacts-pass, channels-pass}
+use Rattle.edits.proofs.ListEdits.{length-insert, length-remove, length-replace, every-insert, every-remove, every-replace}
+
+-- ---- the bytes of banks
+
+abbrev pub noBank : Bank
+noBank = record { name = []; entries = [] }
+
+pub length-cons : (b : Bank) (l : List Bank) → length (banksBytes (b ∷ l)) ≡ length (bankBytes b) + length (banksBytes l)
+length-cons b l = ap length (banksBytes-cons b l) ∙ length-append (bankBytes b) (banksBytes l)
+
+length-both : (a b : List Bank) → length (banksBytes (a ++ b)) ≡ length (banksBytes a) + length (banksBytes b)
+length-both a b = ap length (banksBytes-append a b) ∙ length-append (banksBytes a) (banksBytes b)
+
+length-split : (l : List Bank) (i : ℕ) → length (banksBytes l) ≡ length (banksBytes (take i l)) + length (banksBytes (drop i l))
+length-split l i = ap length (banksBytes-split l i) ∙ length-append (banksBytes (take i l)) (banksBytes (drop i l))
+
+-- bank i and those behind it
+length-from : (l : List Bank) (i : ℕ) → i < length l
+    → length (banksBytes (drop i l)) ≡ length (bankBytes (getD l i noBank)) + length (banksBytes (drop (suc i) l))
+length-from l i h = rw (drop-cons l i noBank h) (length-cons (getD l i noBank) (drop (suc i) l))
+
+pub bytes-insert : (i : ℕ) (b : Bank) (l : List Bank)
+    → length (banksBytes (insertAt i b l)) ≡ length (banksBytes l) + length (bankBytes b)
+unfolding insertAt
+bytes-insert i b l =
+    omega (arith, length-both (take i l) (b ∷ drop i l), length-cons b (drop i l), length-split l i)
+
+pub bytes-remove : (i : ℕ) (l : List Bank) → i < length l
+    → length (banksBytes (removeAt i l)) + length (bankBytes (getD l i noBank)) ≡ length (banksBytes l)
+unfolding removeAt
+bytes-remove i l h =
+    omega (arith, length-both (take i l) (drop (suc i) l), length-from l i h, length-split l i)
+
+pub bytes-replace : (i : ℕ) (b : Bank) (l : List Bank) → i < length l
+    → length (banksBytes (replaceAt i b l)) + length (bankBytes (getD l i noBank)) ≡ length (banksBytes l) + length (bankBytes b)
+unfolding replaceAt
+bytes-replace i b l h =
+    omega (
+      arith,
+      length-both (take i l) (b ∷ drop (suc i) l),
+      length-cons b (drop (suc i) l),
+      length-from l i h,
+      length-split l i,
+    )
+
+-- ---- one bank among good ones
+
+one-bank : (n p : ℕ) (a : List Bank) (b : Bank) (z : List Bank) → Every (BankGood n) a → Every (BankGood n) z
+    → banksOk n p (a ++ (b ∷ z)) ≡ bankOk n (p + length (banksBytes a)) b
+unfolding _then_ banksOk
+one-bank n p a b z ha hz =
+    banksOk-append n p a (b ∷ z)
+    ∙ rw (
+      banksOk-passes n p a ha,
+      banksOk-passes n (p + length (banksBytes a) + length (bankBytes b)) z hz,
+    )
+    (then-of-good (bankOk n (p + length (banksBytes a)) b))
+
+pub insert-ok : (n p i : ℕ) (b : Bank) (l : List Bank) → Every (BankGood n) l
+    → banksOk n p (insertAt i b l) ≡ bankOk n (p + length (banksBytes (take i l))) b
+unfolding insertAt
+insert-ok n p i b l h = one-bank n p (take i l) b (drop i l) (every-take (BankGood n) i l h) (every-drop (BankGood n) i l h)
+
+pub replace-ok : (n p i : ℕ) (b : Bank) (l : List Bank) → Every (BankGood n) l
+    → banksOk n p (replaceAt i b l) ≡ bankOk n (p + length (banksBytes (take i l))) b
+unfolding replaceAt
+replace-ok n p i b l h =
+    one-bank n p (take i l) b (drop (suc i) l) (every-take (BankGood n) i l h) (every-drop (BankGood n) (suc i) l h)
+
+-- ---- other banks
+
+module _ (c : Plug) (a : Accepted c) where
+  banks-short : length (banksBytes (c .banks)) ≤ 1_048_576
+  banks-short = omega (arith, a .short, length-plug c (a .shaped))
+
+  module _ (l : List Bank) where
+    shaped-banks : length l < 65536 → Every BankShaped l → length (banksBytes l) < 2 ^ 32 → Shaped (withBanks l c)
+    unfolding withBanks
+    shaped-banks fits banks room =
+        let h = a .shaped in
+        record {
+          preamble = h .preamble;
+          preambleBytes = h .preambleBytes;
+          contactsFit = h .contactsFit;
+          contacts = h .contacts;
+          contactsBytes = h .contactsBytes;
+          channelsFit = h .channelsFit;
+          channels = h .channels;
+          channelsBytes = h .channelsBytes;
+          banksFit = fits;
+          banks = banks;
+          offsetsFit = room;
+        }
+
+    module _ (h : Shaped (withBanks l c)) where
+      banks-length : length (plugBytes (withBanks l c)) ≡ tableStart c + length l * 4 + length (banksBytes l)
+      unfolding withBanks
+      banks-length = length-plug (withBanks l c) h
+
+      -- after the length only the banks can refuse
+      banks-result : fileRule (plugBytes (withBanks l c))
+          ≡ unless (leb (length (plugBytes (withBanks l c))) 1_048_576) 1 0
+          then banksOk (length (c .channels)) (tableStart c + length l * 4) l
+      unfolding withBanks _then_
+      banks-result =
+          file-judged (withBanks l c) h
+          ∙ rw (a .preamble, contacts-pass 88 (c .contacts) (a .contacts), channels-pass (c .contacts) _ (c .channels) (a .channels))
+
+      -- no longer than before
+      banks-result-short : length (plugBytes (withBanks l c)) ≤ length (plugBytes c)
+          → fileRule (plugBytes (withBanks l c)) ≡ banksOk (length (c .channels)) (tableStart c + length l * 4) l
+      unfolding _then_
+      banks-result-short s =
+          banks-result
+          ∙ rw (unless-passes (leb (length (plugBytes (withBanks l c))) 1_048_576) 1 0
+          (le-leb (length (plugBytes (withBanks l c))) 1_048_576 (omega (arith, a .short))))
+
+  -- ---- bank i removed
+
+  module _ (i : ℕ) (g : i < length (c .banks)) where
+    pub shaped-remove-bank : Shaped (withBanks (removeAt i (c .banks)) c)
+    shaped-remove-bank =
+        let l = c .banks in
+        let h = a .shaped in
+        shaped-banks (removeAt i l) (omega (arith, length-remove i l g, h .banksFit)) (every-remove BankShaped i l (h .banks))
+        (omega (arith, bytes-remove i l g, h .offsetsFit))
+
+    pub remove-bank-judged : fileRule (plugBytes (withBanks (removeAt i (c .banks)) c)) ≡ Good
+    remove-bank-judged =
+        let l = c .banks in
+        let n = length (c .channels) in
+        let h = shaped-remove-bank in
+        let short : length (plugBytes (withBanks (removeAt i l) c)) ≤ length (plugBytes c) =
+        omega (arith, banks-length (removeAt i l) h, length-plug c (a .shaped), length-remove i l g, bytes-remove i l g)
+        in
+        banks-result-short (removeAt i l) h short
+        ∙ banksOk-passes n (tableStart c + length (removeAt i l) * 4) (removeAt i l) (every-remove (BankGood n) i l (a .banks))
+
+  -- ---- b in place of bank i
+
+  module _ (i : ℕ) (b : Bank) (g : i < length (c .banks)) (s : BankShaped b) where
+    pub shaped-replace-bank : Shaped (withBanks (replaceAt i b (c .banks)) c)
+    shaped-replace-bank =
+        let l = c .banks in
+        let h = a .shaped in
+        shaped-banks (replaceAt i b l) (omega (arith, length-replace i b l g, h .banksFit))
+        (every-replace BankShaped i b l s (h .banks))
+        (omega (arith, bytes-replace i b l g, banks-short, length-bankBytes b (s .wide), s .fits))
+
+    pub length-replace-bank : length (plugBytes (withBanks (replaceAt i b (c .banks)) c)) + length (bankBytes (getD (c .banks) i noBank))
+        ≡ length (plugBytes c) + length (bankBytes b)
+    length-replace-bank =
+        let l = c .banks in
+        omega (
+          arith,
+          banks-length (replaceAt i b l) shaped-replace-bank,
+          length-plug c (a .shaped),
+          length-replace i b l g,
+          bytes-replace i b l g,
+        )
+
+    replaced-judged : banksOk (length (c .channels)) (tableStart c + length (replaceAt i b (c .banks)) * 4) (replaceAt i b (c .banks))
+        ≡ bankOk (length (c .channels)) (bankPlace (plugBytes c) i) b
+    replaced-judged =
+        let l = c .banks in
+        let n = length (c .channels) in
+        let e : tableStart c + length (replaceAt i b l) * 4 + length (banksBytes (take i l)) ≡ bankPlace (plugBytes c) i =
+        omega (arith, length-replace i b l g, bank-place c (a .shaped) i (omega arith))
+        in
+        replace-ok n (tableStart c + length (replaceAt i b l) * 4) i b l (a .banks) ∙ ap (λ (p : ℕ). bankOk n p b) e
+
+    pub replace-bank-judged : fileRule (plugBytes (withBanks (replaceAt i b (c .banks)) c))
+        ≡ unless (leb (length (plugBytes (withBanks (replaceAt i b (c .banks)) c))) 1_048_576) 1 0
+        then bankOk (length (c .channels)) (bankPlace (plugBytes c) i) b
+    replace-bank-judged = banks-result (replaceAt i b (c .banks)) shaped-replace-bank ∙ rw replaced-judged
+
+    pub replace-bank-short : length (bankBytes b) ≤ length (bankBytes (getD (c .banks) i noBank))
+        → fileRule (plugBytes (withBanks (replaceAt i b (c .banks)) c)) ≡ bankOk (length (c .channels)) (bankPlace (plugBytes c) i) b
+    replace-bank-short z =
+        banks-result-short (replaceAt i b (c .banks)) shaped-replace-bank (omega (arith, length-replace-bank)) ∙ replaced-judged
+
+  -- ---- b before bank i
+
+  module _ (i : ℕ) (b : Bank) (g : i ≤ length (c .banks)) (n : length (c .banks) < 65535) (s : BankShaped b) where
+    pub shaped-insert-bank : Shaped (withBanks (insertAt i b (c .banks)) c)
+    shaped-insert-bank =
+        let l = c .banks in
+        let h = a .shaped in
+        shaped-banks (insertAt i b l) (omega (arith, length-insert i b l g)) (every-insert BankShaped i b l s (h .banks))
+        (omega (arith, bytes-insert i b l, banks-short, length-bankBytes b (s .wide), s .fits))
+
+    length-insert-bank : length (plugBytes (withBanks (insertAt i b (c .banks)) c)) ≡ length (plugBytes c) + (4 + length (bankBytes b))
+    length-insert-bank =
+        let l = c .banks in
+        omega (
+          arith,
+          banks-length (insertAt i b l) shaped-insert-bank,
+          length-plug c (a .shaped),
+          length-insert i b l g,
+          bytes-insert i b l,
+        )
+
+    pub insert-bank-judged : fileRule (plugBytes (withBanks (insertAt i b (c .banks)) c))
+        ≡ unless (leb (length (plugBytes c) + (4 + length (bankBytes b))) 1_048_576) 1 0
+        then bankOk (length (c .channels)) (bankPlace (plugBytes c) i + 4) b
+    insert-bank-judged =
+        let l = c .banks in
+        let m = length (c .channels) in
+        let e : tableStart c + length (insertAt i b l) * 4 + length (banksBytes (take i l)) ≡ bankPlace (plugBytes c) i + 4 =
+        omega (arith, length-insert i b l g, bank-place c (a .shaped) i g)
+        in
+        banks-result (insertAt i b l) shaped-insert-bank
+        ∙ rw (length-insert-bank, insert-ok m (tableStart c + length (insertAt i b l) * 4) i b l (a .banks), e)

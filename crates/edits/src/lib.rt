@@ -1,0 +1,1 @@
+// The twelve edits of a codeplug file: definitions and their theory; no code.

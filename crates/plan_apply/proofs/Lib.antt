@@ -1,0 +1,2 @@
+-- Laws on a change made in place.
+pub mod MakeLaws

@@ -1,0 +1,2 @@
+-- What a change made in place asks of its buffer.
+pub mod Room

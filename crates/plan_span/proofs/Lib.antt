@@ -1,0 +1,6 @@
+-- Laws on a change's place and lengths.
+pub mod TailLaws
+pub mod MeasureLaws
+pub mod ApartLaws
+pub mod TableLaws
+pub mod FollowLaws

@@ -1,0 +1,17 @@
+-- A file's layout, as far as an edit's places and plan need it: every accepted file has it (edits, proofs/Accepted.antt). What its records
+-- hold is not asked.
+use Prim.Native.Nat.{ℕ, _^_, _≤_, _<_}
+use mathlib.Core.Path.{_≡_}
+use mathlib.Core.List.{List}
+use lib.ListN.{length}
+use Rattle.fields.specs.Bytes.{AllBytes}
+use Rattle.fields.specs.declared.rule.Verdict.the-variants.{Good}
+use Rattle.layout.specs.Places.{banksPlace}
+use Rattle.layout.specs.Banks.{banksRule}
+
+pub record Laid (f : List ℕ) : Type 0 where
+  pub bytes : AllBytes f
+  pub header : 88 ≤ length f
+  pub table : banksPlace f ≤ length f
+  pub banks : banksRule f ≡ Good
+  pub short : length f < 2 ^ 32

@@ -1,0 +1,2 @@
+-- Laws of what both calls judge first.
+pub mod StandLaws

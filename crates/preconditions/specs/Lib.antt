@@ -1,0 +1,2 @@
+-- What is lent to a call, and what it leaves.
+pub mod Calls

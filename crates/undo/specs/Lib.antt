@@ -1,0 +1,2 @@
+-- How the code of an undo goes about it.
+pub mod Undo

@@ -1,0 +1,81 @@
+// An entry's m bytes put in place of k bytes of a codeplug, judged, and taken out again where the result is refused. The bytes that leave
+// stand meanwhile in the entry and, where they are more, behind the codeplug.
+use fields::rule::Verdict;
+use moves::block::clear;
+use moves::turning::swap;
+use moves::turning::turn;
+use validation::judge::verdict_on;
+ghost use Prim.Native.Nat.{_+_, _≤_, _<_};
+ghost use lib.ListN.{length};
+ghost use Rattle.undo.specs.Undo.{Tried};
+
+// At least as many bytes come as leave: spare bytes are turned to the front of what lies behind, then all are swapped.
+fn revert_longer(
+    room: &mut [u8],
+    len: usize,
+    p: usize,
+    k: usize,
+    history: &mut [u8],
+    body: usize,
+    m: usize,
+) -> bool
+    requires { ⌜ ((p + k ≤ len) × (len ≤ length (now room))) × (((len + m ≤ length (now room) + k) × (k ≤ m)) × (body + m ≤ length (now history))) ⌝ }
+    ensures { λ r. ⌜ Tried (now (room .entry)) len p k (now (history .entry)) body m r (now (room .exit)) (now (history .exit)) ⌝ }
+{
+    let behind = len - (p + k);
+    let spare = m - k;
+    turn(room, p + k, behind + spare, behind);
+    swap(room, p, history, body, m);
+    if let Verdict::Good = verdict_on(&room[..len + spare]) {
+        return true;
+    }
+    swap(room, p, history, body, m);
+    turn(room, p + k, behind + spare, spare);
+    false
+}
+
+// Fewer bytes come than leave: as many are swapped, then the others are turned behind the codeplug.
+fn revert_shorter(
+    room: &mut [u8],
+    len: usize,
+    p: usize,
+    k: usize,
+    history: &mut [u8],
+    body: usize,
+    m: usize,
+) -> bool
+    requires { ⌜ ((p + k ≤ len) × (len ≤ length (now room))) × ((m < k) × (body + m ≤ length (now history))) ⌝ }
+    ensures { λ r. ⌜ Tried (now (room .entry)) len p k (now (history .entry)) body m r (now (room .exit)) (now (history .exit)) ⌝ }
+{
+    let behind = len - (p + k);
+    let spare = k - m;
+    swap(room, p, history, body, m);
+    turn(room, p + m, spare + behind, spare);
+    if let Verdict::Good = verdict_on(&room[..len - spare]) {
+        clear(room, len - spare, spare);
+        return true;
+    }
+    turn(room, p + m, spare + behind, behind);
+    swap(room, p, history, body, m);
+    false
+}
+
+// Whether the result is good: then the room holds it, else both buffers are as they were.
+pub fn revert(
+    room: &mut [u8],
+    len: usize,
+    p: usize,
+    k: usize,
+    history: &mut [u8],
+    body: usize,
+    m: usize,
+) -> bool
+    requires { ⌜ ((p + k ≤ len) × (len ≤ length (now room))) × ((len + m ≤ length (now room) + k) × (body + m ≤ length (now history))) ⌝ }
+    ensures { λ r. ⌜ Tried (now (room .entry)) len p k (now (history .entry)) body m r (now (room .exit)) (now (history .exit)) ⌝ }
+{
+    if k <= m {
+        revert_longer(room, len, p, k, history, body, m)
+    } else {
+        revert_shorter(room, len, p, k, history, body, m)
+    }
+}
