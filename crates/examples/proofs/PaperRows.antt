@@ -11,8 +11,8 @@ use Rattle.fields.specs.declared.rule.Verdict.the-variants as verdict
 use Rattle.fields.specs.Bytes.{little, littleBytes}
 use Rattle.channel.specs.Rule.{fmRule}
 use Rattle.layout.specs.Places.{contactCount, channelCount, bankCount, contactPlace, channelPlace, offsetPlace, banksPlace}
-use Rattle.moves.specs.Common.{commonStart, commonEnd}
-use Rattle.journal.specs.Number.{numberBytes, groups, numberAt, groupsAt, atMost, withGroup}
+use Rattle.affixes.specs.Common.{commonStart, commonEnd}
+use Rattle.varint.specs.Number.{numberBytes, groups, numberAt, groupsAt, atMost, withGroup}
 use Rattle.journal.specs.Entry.{entryBytes, entriesOf, entriesUpTo, frontOf, withPlace, withPut, withOld, before, restOf}
 use Rattle.journal.specs.Change.{entryOf, tailOf}
 use Rattle.journal.specs.Machine.{wholeRule}

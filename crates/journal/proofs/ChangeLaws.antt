@@ -7,9 +7,9 @@ use lib.ListN.{length, drop, length-drop}
 use lib.Seq.{drop-drop}
 use Rattle.fields.proofs.Laws.{AllBytes, bytes-part, length-part}
 use Rattle.moves.specs.Cut.{cut}
-use Rattle.moves.specs.Common.{commonStart}
-use Rattle.moves.proofs.Laws.{commonStart-left, commonStart-right, commonStart-self, take-commonStart}
-use Rattle.moves.proofs.Laws.{commonEnd-left, commonEnd-right, drop-commonEnd, between}
+use Rattle.affixes.specs.Common.{commonStart}
+use Rattle.affixes.proofs.Laws.{commonStart-left, commonStart-right, commonStart-self, take-commonStart}
+use Rattle.affixes.proofs.Laws.{commonEnd-left, commonEnd-right, drop-commonEnd, between}
 use Rattle.journal.specs.Change.{tailOf, entryOf, revert}
 use Rattle.journal.proofs.Laws.{GoodEntry}
 

@@ -7,9 +7,10 @@ use lib.ListN.{length, take, drop, length-append, length-take}
 use lib.Seq.{take-take}
 use Rattle.fields.specs.Bytes.{part, over, zeros}
 use Rattle.fields.proofs.Laws.{AllBytes, bytes-take, length-part, length-zeros, over-over, over-zero}
-use Rattle.moves.specs.Common.{commonStart}
-use Rattle.moves.proofs.Laws.{commonStart-left, over-ahead}
-use Rattle.journal.specs.Number.{numberBytes}
+use Rattle.affixes.specs.Common.{commonStart}
+use Rattle.affixes.proofs.Laws.{commonStart-left}
+use Rattle.moves.proofs.Laws.{over-ahead}
+use Rattle.varint.specs.Number.{numberBytes}
 use Rattle.journal.specs.Entry.{Entry, entryBytes, entrySize, historyBytes, Entries, whole, broken, entriesOf}
 use Rattle.journal.specs.History.{fittingRun, recorded}
 use Rattle.journal.specs.Scan.{numberOfEntries, runOf}
@@ -19,7 +20,8 @@ use Rattle.journal.specs.Span.{spanOf, entryFrom, Sound, spanSize, recor
 use Rattle.journal.specs.declared.recording.Span.{Span}
 use Rattle.journal.specs.declared.scan.Run.{Run}
 use Rattle.journal.specs.declared.scan.HistoryRead.the-variants as read
-use Rattle.journal.proofs.Laws.{number-short, size-parts, entries-canonical, kept-bytes, kept-fits, history-least, history-size}
+use Rattle.varint.proofs.Laws.{number-short}
+use Rattle.journal.proofs.Laws.{size-parts, entries-canonical, kept-bytes, kept-fits, history-least, history-size}
 use Rattle.journal.proofs.ChangeLaws.{tail-left, length-taken}
 
 -- ---- a change's numbers

@@ -3,7 +3,7 @@ use Prim.Native.Nat.{ℕ, _+_, _-_}
 use mathlib.Core.List.{List}
 use lib.ListN.{length, drop}
 use Rattle.fields.specs.Bytes.{part}
-use Rattle.moves.specs.Common.{commonStart, commonEnd}
+use Rattle.affixes.specs.Common.{commonStart, commonEnd}
 use Rattle.moves.specs.Cut.{cut}
 use Rattle.journal.specs.Entry.{Entry}
 

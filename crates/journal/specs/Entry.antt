@@ -7,9 +7,9 @@ use lib.Dec.{leb}
 use Rattle.fields.specs.Bytes.{part}
 use Rattle.fields.specs.Rule.{unless}
 use Rattle.fields.specs.declared.rule.Verdict.{Verdict}
-use Rattle.journal.specs.Number.{numberBytes, numberAt}
-use Rattle.journal.specs.declared.number.NumberRead.{NumberRead}
-use Rattle.journal.specs.declared.number.NumberRead.the-variants.{Number, Broken}
+use Rattle.varint.specs.Number.{numberBytes, numberAt}
+use Rattle.varint.specs.declared.NumberRead.{NumberRead}
+use Rattle.varint.specs.declared.NumberRead.the-variants.{Number, Broken}
 
 pub record Entry : Type 0 where
   -- p

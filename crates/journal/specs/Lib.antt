@@ -1,5 +1,4 @@
 -- The history: entries that undo edits of a byte list. Nothing here knows what a codeplug is.
-pub mod Number
 pub mod Entry
 pub mod History
 pub mod Change

@@ -5,7 +5,7 @@ use mathlib.Core.Path.{_≡_}
 use mathlib.Core.List.{List, [], _∷_, _++_}
 use lib.ListN.{length, take}
 use Rattle.fields.specs.Bytes.{over}
-use Rattle.journal.specs.Number.{numberBytes}
+use Rattle.varint.specs.Number.{numberBytes}
 use Rattle.journal.specs.Entry.{Entry, Entries, whole, broken, entriesOf, historyBytes}
 use Rattle.journal.specs.History.{recorded}
 use Rattle.journal.specs.Scan.{numberOfEntries}

@@ -1,16 +1,16 @@
 // An edit's entry put in front of the history.
-use crate::number::number_length;
-use crate::number::put_number;
 use crate::scan::Run;
 use crate::scan::fitting;
 use fields::put::put;
 use moves::block::clear;
 use moves::block::move_up;
+use varint::number_length;
+use varint::put_number;
 ghost use mathlib.Core.Path.{_≡_};
 ghost use Prim.Native.Nat.{_+_, _-_, _≤_};
 ghost use lib.ListN.{length};
 ghost use Rattle.fields.specs.Bytes.{over};
-ghost use Rattle.journal.specs.Number.{numberBytes};
+ghost use Rattle.varint.specs.Number.{numberBytes};
 ghost use Rattle.journal.specs.Entry.{entryBytes, historyBytes};
 ghost use Rattle.journal.specs.Machine.{holding};
 ghost use Rattle.journal.specs.Span.{Sound, spanSize, entryFrom, Reserved, Recordable, recordedOver, runHeld};

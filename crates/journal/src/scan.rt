@@ -1,6 +1,6 @@
 // The entries that bytes hold.
-use crate::number::NumberRead;
-use crate::number::number_at;
+use varint::NumberRead;
+use varint::number_at;
 ghost use mathlib.Core.Path.{_≡_};
 ghost use Prim.Native.Nat.{_+_, _≤_};
 ghost use lib.ListN.{length, drop, take};

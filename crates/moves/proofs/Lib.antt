@@ -1,5 +1,3 @@
--- Laws of the definitions, for the proofs here and for callers.
+-- Laws of bytes moved within a buffer.
 pub mod Laws
 pub mod SeamLaws
-pub mod TurnLaws
-pub mod PieceLaws

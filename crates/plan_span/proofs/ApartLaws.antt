@@ -11,8 +11,8 @@ use lib.Dec.{eqb, leb, ltb}
 use borrow.Author.Tests.{eqb-true, eqb-false}
 use Rattle.fields.specs.Bytes.{part, num}
 use Rattle.fields.proofs.Laws.{part-add, part-cons, num-two, AllBytes}
-use Rattle.moves.specs.Common.{commonStart, commonEnd}
-use Rattle.moves.proofs.Laws.{commonStart-same, commonStart-differ}
+use Rattle.affixes.specs.Common.{commonStart, commonEnd}
+use Rattle.affixes.proofs.Laws.{commonStart-same, commonStart-differ}
 use Rattle.journal.specs.Change.{entryOf}
 use Rattle.journal.specs.Span.{spanOf}
 use Rattle.journal.specs.declared.recording.Span.{Span}

@@ -7,9 +7,9 @@ use lib.ListN.{length, getD, take, drop, length-append, length-drop, take-append
 use lib.Seq.{take-take, take-all, take-add, length-take-le, drop-at, drop-drop, drop-length, getD-drop}
 use Rattle.fields.specs.Bytes.{part, over, littleBytes}
 use Rattle.fields.proofs.Laws.{length-part, length-littleBytes, length-over, getD-part, part-part, part-add}
-use Rattle.moves.specs.Common.{commonStart, commonEnd}
-use Rattle.moves.proofs.Laws.{commonStart-append, commonStart-differ, commonStart-self, commonStart-right, commonStart-stops}
-use Rattle.moves.proofs.Laws.{take-commonStart, commonEnd-append, commonEnd-left, commonEnd-right}
+use Rattle.affixes.specs.Common.{commonStart, commonEnd}
+use Rattle.affixes.proofs.Laws.{commonStart-append, commonStart-differ, commonStart-self, commonStart-right, commonStart-stops}
+use Rattle.affixes.proofs.Laws.{take-commonStart, commonEnd-append, commonEnd-left, commonEnd-right}
 use Rattle.moves.proofs.SeamLaws.{cut-over}
 use Rattle.journal.specs.Change.{entryOf, tailOf}
 use Rattle.journal.specs.Span.{spanOf}

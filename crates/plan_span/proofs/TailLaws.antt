@@ -9,9 +9,9 @@ use mir.Syntax.{w64}
 use mir.Val.{Fits}
 use Rattle.fields.specs.Bytes.{part, num, littleBytes}
 use Rattle.fields.proofs.Laws.{length-part, length-littleBytes}
-use Rattle.moves.specs.Common.{commonEnd}
-use Rattle.moves.proofs.Laws.{commonEnd-right}
-use Rattle.moves.proofs.PieceLaws.{piece-stops, piece-goes, piece-left, piece-fits}
+use Rattle.affixes.specs.Common.{commonEnd}
+use Rattle.affixes.proofs.Laws.{commonEnd-right}
+use Rattle.affixes.proofs.PieceLaws.{piece-stops, piece-goes, piece-left, piece-fits}
 use Rattle.renumber.specs.Moved.{offsetsMoved}
 use Rattle.plan.specs.declared.Counted.{Counted}
 use Rattle.plan.specs.declared.Table.{Table}

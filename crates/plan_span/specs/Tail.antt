@@ -6,7 +6,7 @@ use mathlib.Core.List.{List, _++_}
 use lib.ListN.{length, getD}
 use lib.Dec.{eqb}
 use Rattle.fields.specs.Bytes.{part, littleBytes}
-use Rattle.moves.specs.Common.{commonEnd}
+use Rattle.affixes.specs.Common.{commonEnd}
 use Rattle.journal.specs.declared.recording.Span.{Span}
 use Rattle.renumber.specs.Shift.{growthOf}
 use Rattle.renumber.specs.Moved.{offsetsMoved}

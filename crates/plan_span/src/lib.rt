@@ -3,15 +3,15 @@ mod tails; // tails.rt: how much agrees behind a change of offsets
 
 use crate::tails::bank_tail;
 use crate::tails::entries_tail;
+use affixes::common_end;
+use affixes::common_start;
+use affixes::pieces::common_end3;
 use fields::numbers::le16;
 use journal::recording::Span;
 use layout::places::bank_count;
 use layout::places::banks_place;
 use layout::places::channel_count;
 use layout::places::channel_place;
-use moves::common::common_end;
-use moves::common::common_start;
-use moves::pieces::common_end3;
 use plan::Block;
 use plan::Counted;
 use plan::Plan;

@@ -1,8 +1,8 @@
 // How much agrees behind a change that moves offsets. The pieces of the new file are compared from the last one on.
+use affixes::common_end;
+use affixes::pieces::common_end3;
+use affixes::pieces::common_end4;
 use fields::numbers::le32;
-use moves::common::common_end;
-use moves::pieces::common_end3;
-use moves::pieces::common_end4;
 use plan::Block;
 use plan::Counted;
 use plan::Table;
@@ -12,7 +12,7 @@ use renumber::shift::grown;
 ghost use mathlib.Core.Path.{_≡_};
 ghost use Prim.Native.Nat.{_<_, _≤_};
 ghost use lib.ListN.{length};
-ghost use Rattle.moves.specs.Common.{commonEnd};
+ghost use Rattle.affixes.specs.Common.{commonEnd};
 ghost use Rattle.plan_span.specs.Tail.{tableEnd, newOffsets, entriesTail, tablePieces, bankTail};
 ghost use Rattle.plan_span.specs.Tail.{EntriesInside, TableInside, BankInside};
 

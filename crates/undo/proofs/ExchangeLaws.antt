@@ -14,9 +14,9 @@ use Rattle.fields.proofs.Laws.{length-part, length-over, length-zeros, part-ove
 use Rattle.validation.specs.File.{fileRule}
 use Rattle.moves.specs.Cut.{cut}
 use Rattle.moves.specs.Splice.{spliced}
-use Rattle.moves.specs.Turn.{turned}
+use Rattle.rotation.specs.Turn.{turned}
 use Rattle.moves.proofs.Laws.{spliced-whole, spliced-of, take-over-before}
-use Rattle.moves.proofs.TurnLaws.{cut-three, cut-four, over-mid, turned-mid, length-turned}
+use Rattle.rotation.proofs.TurnLaws.{cut-three, cut-four, over-mid, turned-mid, length-turned}
 use Rattle.undo.specs.Undo.{Tried}
 
 -- ---- a swap and a turn taken back

@@ -2,8 +2,8 @@
 // stand meanwhile in the entry and, where they are more, behind the codeplug.
 use fields::rule::Verdict;
 use moves::block::clear;
-use moves::turning::swap;
-use moves::turning::turn;
+use rotation::swap;
+use rotation::turn;
 use validation::judge::verdict_on;
 ghost use Prim.Native.Nat.{_+_, _≤_, _<_};
 ghost use lib.ListN.{length};

@@ -4,7 +4,7 @@ use Prim.Native.Nat.{_+_, _-_, _≤_}
 use mathlib.Core.Path.{_≡_, sym, _∙_}
 use lib.ListN.{length, take}
 use lib.Seq.{length-take-le}
-use Rattle.moves.specs.Common.{commonEnd}
+use Rattle.affixes.specs.Common.{commonEnd}
 use Rattle.renumber.specs.Shift.{growthOf}
 use Rattle.renumber.specs.Moved.{offsetsMoved}
 use Rattle.plan_span.specs.Tail.{newOffsets}

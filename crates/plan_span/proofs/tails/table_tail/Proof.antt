@@ -5,7 +5,7 @@ use mathlib.Core.Path.{_≡_, sym}
 use mathlib.Core.List.{append-assoc}
 use lib.ListN.{length, take}
 use lib.Seq.{length-take-le}
-use Rattle.moves.specs.Common.{commonEnd}
+use Rattle.affixes.specs.Common.{commonEnd}
 use Rattle.renumber.specs.Shift.{growthOf}
 use Rattle.renumber.proofs.Laws.{length-offsetsMoved}
 use Rattle.plan_span.specs.Tail.{newOffsets, countedPieces, tablePieces}

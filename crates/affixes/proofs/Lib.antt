@@ -1,0 +1,3 @@
+-- Laws of what two lists have in common.
+pub mod Laws
+pub mod PieceLaws

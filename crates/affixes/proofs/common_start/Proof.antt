@@ -1,0 +1,74 @@
+-- The invariant: i bytes agree, and what is common beyond them is what the rests have in common.
+use borrow.Author.Needs.{needs}
+use native.Mathlib.Omega.{arith}
+use Prim.Native.Nat.{_-_}
+use lib.ListN.{length}
+use Rattle.affixes.specs.Scan.{StartTo}
+use mathlib.Core.Logic.{inl, inr}
+use Rattle.affixes.proofs.Laws.{start-byte, start-end, start-stop}
+use Rattle.affixes.proofs.common_start.Statement.{statement}
+use Rattle.affixes.proofs.common_start.Tie as tie
+
+abbrev Inv-loop : tie.InvT-loop
+Inv-loop a b i₀ i = StartTo a b i
+
+abbrev μ-loop : tie.MeasureT-loop
+μ-loop a b i₀ i = length a - i
+
+loop-holds : tie.Need-loop-holds Inv-loop μ-loop
+loop-holds c = c .start-chunks .ensures
+
+returns : tie.Need-returns Inv-loop μ-loop
+returns c =
+    let e = c .before .before .before .before .before .before .args in
+    let l = c .before .before .loop in
+    start-end (e .a .now) (e .b .now) (l .i) (l .inv .1) (omega arith) (omega arith) (inr (omega arith))
+
+shared-slice-read-if2 : tie.Need-shared-slice-read-if2 Inv-loop μ-loop
+shared-slice-read-if2 c = omega arith
+
+shared-slice-read-if2-2 : tie.Need-shared-slice-read-if2-2 Inv-loop μ-loop
+shared-slice-read-if2-2 c = omega arith
+
+returns-2 : tie.Need-returns-2 Inv-loop μ-loop
+returns-2 c =
+    let e = c .before .before .before .before .before .before .before .before .before .args in
+    let l = c .before .before .before .before .before .loop in
+    start-stop (e .a .now) (e .b .now) (l .i) (l .inv .1) (omega arith) (omega arith) (λ g. omega arith)
+
+add-i : tie.Need-add-i Inv-loop μ-loop
+add-i c = omega arith
+
+loop-less : tie.Need-loop-less Inv-loop μ-loop
+loop-less c = omega arith
+
+loop-again : tie.Need-loop-again Inv-loop μ-loop
+loop-again c =
+    let e = c .before .before .before .before .before .before .before .before .before .args in
+    let l = c .before .before .before .before .before .loop in (
+      (omega arith, omega arith),
+      start-byte (e .a .now) (e .b .now) (l .i) (l .inv .1) (omega arith) (omega arith) (omega arith),
+    )
+
+returns-3 : tie.Need-returns-3 Inv-loop μ-loop
+returns-3 c =
+    let e = c .before .before .before .before .before .args in
+    let l = c .before .loop in
+    start-end (e .a .now) (e .b .now) (l .i) (l .inv .1) (omega arith) (omega arith) (inl (omega arith))
+
+pub common-start-spec : {M : Type 1} → statement M
+common-start-spec =
+    tie.close
+    (tie.spec
+    Inv-loop
+    μ-loop
+    (search needs)
+    loop-holds
+    returns
+    shared-slice-read-if2
+    shared-slice-read-if2-2
+    returns-2
+    add-i
+    loop-less
+    loop-again
+    returns-3)

@@ -1,0 +1,67 @@
+-- The invariant: i bytes agree, and what is common beyond them is what the rests have in common.
+use native.Mathlib.Omega.{arith}
+use Prim.Native.Nat.{_-_}
+use lib.ListN.{length}
+use Rattle.affixes.specs.Scan.{StartTo}
+use borrow.Author.Tests.{not-false}
+use Rattle.affixes.proofs.Laws.{start-none, start-more}
+use Rattle.affixes.proofs.start_chunks.Statement.{statement}
+use Rattle.affixes.proofs.start_chunks.Tie as tie
+
+abbrev Inv-loop : tie.InvT-loop
+Inv-loop a b i₀ i = StartTo a b i
+
+abbrev μ-loop : tie.MeasureT-loop
+μ-loop a b i₀ i = length a - i
+
+loop-holds : tie.Need-loop-holds Inv-loop μ-loop
+loop-holds c = ((omega arith, omega arith), start-none _ _)
+
+sub-loop : tie.Need-sub-loop Inv-loop μ-loop
+sub-loop c = omega arith
+
+sub-if1 : tie.Need-sub-if1 Inv-loop μ-loop
+sub-if1 c = omega arith
+
+returns : tie.Need-returns Inv-loop μ-loop
+returns c = c .before .before .loop .inv
+
+same32-requires : tie.Need-same32-requires Inv-loop μ-loop
+same32-requires c κs = omega arith
+
+returns-2 : tie.Need-returns-2 Inv-loop μ-loop
+returns-2 c = c .before .before .before .before .loop .inv
+
+add-i : tie.Need-add-i Inv-loop μ-loop
+add-i c = omega arith
+
+loop-less : tie.Need-loop-less Inv-loop μ-loop
+loop-less c = omega arith
+
+loop-again : tie.Need-loop-again Inv-loop μ-loop
+loop-again c =
+    let e = c .before .before .before .before .before .before .before .args in
+    let l = c .before .before .before .before .loop in (
+      (omega arith, omega arith),
+      start-more (e .a .now) (e .b .now) (l .i) 32 (l .inv .1) (c .before .same32 .ensures (not-false _ (c .if2 .left))) (omega arith),
+    )
+
+returns-3 : tie.Need-returns-3 Inv-loop μ-loop
+returns-3 c = c .before .loop .inv
+
+pub start-chunks-spec : {M : Type 1} → statement M
+start-chunks-spec =
+    tie.close
+    (tie.spec
+    Inv-loop
+    μ-loop
+    loop-holds
+    sub-loop
+    sub-if1
+    returns
+    same32-requires
+    returns-2
+    add-i
+    loop-less
+    loop-again
+    returns-3)

@@ -1,0 +1,2 @@
+-- Laws of bytes reversed, turned and swapped.
+pub mod TurnLaws

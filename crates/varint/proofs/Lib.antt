@@ -1,0 +1,3 @@
+-- Laws of numbers in groups of seven bits.
+pub mod Laws
+pub mod CodeLaws

@@ -1,0 +1,2 @@
+-- Numbers in groups of seven bits.
+pub mod Number
