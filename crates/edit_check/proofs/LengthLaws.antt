@@ -126,7 +126,7 @@ emptier-length c a i j g k =
 
 pub edit-length : (k : Kind) (i j : ℕ) (r : List ℕ) (c : Plug) → Accepted c → Shaped (edited k i j r c) → length r ≡ recordLength k
     → placeOk k i j c ≡ true → length (plugBytes (edited k i j r c)) ≡ resultLength k i (plugBytes c)
-unfolding edited recordLength placeOk resultLength moveContacts moveChannels
+unfolding edited moveContacts moveChannels
 edit-length InsertContact i j r c a h w p =
     let l = c .contacts in
     omega (

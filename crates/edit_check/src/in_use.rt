@@ -85,15 +85,6 @@ pub fn in_use(f: &[u8], k: Kind, i: usize) -> bool
     match k {
         Kind::RemoveContact => some_names(f, i),
         Kind::RemoveChannel => some_holds(f, i),
-        Kind::InsertContact => false,
-        Kind::ReplaceContact => false,
-        Kind::InsertChannel => false,
-        Kind::ReplaceChannel => false,
-        Kind::InsertBank => false,
-        Kind::RemoveBank => false,
-        Kind::RenameBank => false,
-        Kind::InsertEntry => false,
-        Kind::RemoveEntry => false,
-        Kind::SetHeader => false,
+        _ => false,
     }
 }

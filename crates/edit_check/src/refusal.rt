@@ -5,7 +5,6 @@ use crate::places::place_ok;
 use crate::result::result_length;
 use crate::result::result_verdict;
 use fields::rule::Verdict;
-use fields::rule::first;
 use fields::rule::unless;
 use format::refusals::FULL;
 use format::refusals::IN_USE;
@@ -35,11 +34,16 @@ fn early_refusal(f: &[u8], k: Kind, i: usize, j: usize, r: &[u8]) -> Verdict
         then unless (countOk k i (plugOf (now (f .entry)))) 34 0
         then unless (not (inUse k i (plugOf (now (f .entry))))) 35 0 ⌝ }
 {
-    let length = unless(r.len() == record_length(k), NO_EDIT, 0);
-    let place = unless(place_ok(f, k, i, j), NO_PLACE, 0);
-    let count = unless(count_ok(f, k, i), FULL, 0);
-    let used = unless(!in_use(f, k, i), IN_USE, 0);
-    first(length, first(place, first(count, used)))
+    if r.len() != record_length(k) {
+        return Verdict::Refused(NO_EDIT, 0);
+    }
+    if !place_ok(f, k, i, j) {
+        return Verdict::Refused(NO_PLACE, 0);
+    }
+    if !count_ok(f, k, i) {
+        return Verdict::Refused(FULL, 0);
+    }
+    unless(!in_use(f, k, i), IN_USE, 0)
 }
 
 // 32 (the record's length), 33, 34, 35, what reading the result gives, 36.

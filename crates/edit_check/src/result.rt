@@ -16,6 +16,7 @@ use format::sizes::CONTACT_SIZE;
 use format::sizes::EMPTY_BANK_SIZE;
 use format::sizes::ENTRY_SIZE;
 use format::sizes::FILE_MAX;
+use format::sizes::OFFSET_SIZE;
 use layout::banks::entry_count;
 use layout::places::channel_count;
 use layout::places::channel_place;
@@ -43,22 +44,28 @@ ghost use Rattle.plug.specs.Laid.{Laid};
 ghost use Rattle.plug.specs.Plug.{plugOf};
 ghost use Rattle.plug.specs.Kinds.{recordLength};
 ghost use Rattle.plug.specs.EditRules.{placeOk};
-ghost use Rattle.edits.specs.Foretold.{mayGrow, keepsMode, resultRule, resultLength};
+ghost use Rattle.edits.specs.Foretold.{keepsMode, resultRule, resultLength};
+ghost use Rattle.edit_check.specs.Growth.{growth, growthRule};
 
-// The file may grow by n bytes.
-fn may_grow(f: &[u8], n: usize) -> Verdict
-    requires { ⌜ n < 2 ^ 32 ⌝ }
-    ensures { λ v. ⌜ v ≡ mayGrow n (now (f .entry)) ⌝ }
+// How many bytes an edit puts in.
+fn growth(k: Kind) -> usize
+    ensures { λ n. ⌜ (n ≡ growth k) × (n < 100) ⌝ }
 {
-    unless(f.len() + n <= FILE_MAX, TOO_LONG, 0)
+    match k {
+        Kind::InsertContact => CONTACT_SIZE,
+        Kind::InsertChannel => CHANNEL_SIZE,
+        Kind::InsertBank => EMPTY_BANK_SIZE,
+        Kind::InsertEntry => ENTRY_SIZE,
+        _ => 0,
+    }
 }
 
-fn insert_contact(f: &[u8], i: usize, r: &[u8]) -> Verdict
-    requires { ⌜ i < 65536 ⌝ }
-    ensures { λ v. ⌜ v ≡ mayGrow 39 (now (f .entry)) then contactRule (now (r .entry)) (contactPlace i) ⌝ }
+// The file may grow by what an edit puts in.
+fn may_grow(f: &[u8], k: Kind) -> Verdict
+    ensures { λ v. ⌜ v ≡ growthRule k (now (f .entry)) ⌝ }
 {
-    let judged = contact::judge::judge(r, contact_place(i));
-    first(may_grow(f, CONTACT_SIZE), judged)
+    let n = growth(k);
+    unless((n == 0) | (f.len() + n <= FILE_MAX), TOO_LONG, 0)
 }
 
 // A channel at p that names contact i is of this mode.
@@ -105,7 +112,7 @@ fn replace_contact(f: &[u8], i: usize, r: &[u8]) -> Verdict
 }
 
 // The record as channel i of the file.
-fn replace_channel(f: &[u8], i: usize, r: &[u8]) -> Verdict
+fn put_channel(f: &[u8], i: usize, r: &[u8]) -> Verdict
     requires { ⌜ i < 65536 ⌝ }
     ensures { λ v. ⌜ v ≡ channelRule (now (r .entry)) (channelPlace (now (f .entry)) i) (indexOk (now (f .entry)) (now (r .entry))) ⌝ }
 {
@@ -113,40 +120,22 @@ fn replace_channel(f: &[u8], i: usize, r: &[u8]) -> Verdict
     channel::judge::judge(r, channel_place(f, i), named)
 }
 
-fn insert_channel(f: &[u8], i: usize, r: &[u8]) -> Verdict
-    requires { ⌜ i < 65536 ⌝ }
-    ensures { λ v. ⌜ v ≡ mayGrow 90 (now (f .entry))
-        then channelRule (now (r .entry)) (channelPlace (now (f .entry)) i) (indexOk (now (f .entry)) (now (r .entry))) ⌝ }
+// The name of bank i, which then stands d bytes behind where the bank is now.
+fn name_bank(f: &[u8], i: usize, d: usize, r: &[u8]) -> Verdict
+    requires { ⌜ (Laid (now f)) × ((i ≤ bankCount (now f)) × ((length (now r) ≡ 32) × (d ≤ 4))) ⌝ }
+    ensures { λ v. ⌜ v ≡ unless (textOk (now (r .entry))) 5 (bankPlace (now (f .entry)) i + d) ⌝ }
 {
-    let judged = replace_channel(f, i, r);
-    first(may_grow(f, CHANNEL_SIZE), judged)
+    unless(text_ok(r), TEXT, bank_place(f, i) + d)
 }
 
-fn insert_bank(f: &[u8], i: usize, r: &[u8]) -> Verdict
-    requires { ⌜ (Laid (now f)) × ((i ≤ bankCount (now f)) × (length (now r) ≡ 32)) ⌝ }
-    ensures { λ v. ⌜ v ≡ mayGrow 38 (now (f .entry)) then unless (textOk (now (r .entry))) 5 (bankPlace (now (f .entry)) i + 4) ⌝ }
-{
-    let named = unless(text_ok(r), TEXT, bank_place(f, i) + 4);
-    first(may_grow(f, EMPTY_BANK_SIZE), named)
-}
-
-fn rename_bank(f: &[u8], i: usize, r: &[u8]) -> Verdict
-    requires { ⌜ (Laid (now f)) × ((i ≤ bankCount (now f)) × (length (now r) ≡ 32)) ⌝ }
-    ensures { λ v. ⌜ v ≡ unless (textOk (now (r .entry))) 5 (bankPlace (now (f .entry)) i) ⌝ }
-{
-    unless(text_ok(r), TEXT, bank_place(f, i))
-}
-
-fn insert_entry(f: &[u8], i: usize, j: usize, r: &[u8]) -> Verdict
+fn put_entry(f: &[u8], i: usize, j: usize, r: &[u8]) -> Verdict
     requires { ⌜ (Laid (now f)) × ((i ≤ bankCount (now f)) × ((j < 65536) × (length (now r) ≡ 2))) ⌝ }
-    ensures { λ v. ⌜ v ≡ mayGrow 2 (now (f .entry))
-        then unless (ltb (little (now (r .entry))) (channelCount (now (f .entry)))) 11 (bankPlace (now (f .entry)) i + 34 + j * 2) ⌝ }
+    ensures { λ v. ⌜ v ≡ unless (ltb (little (now (r .entry))) (channelCount (now (f .entry)))) 11 (bankPlace (now (f .entry)) i + 34 + j * 2) ⌝ }
 {
     let index = le16(r, 0) as usize;
     let channels = channel_count(f);
     let p = bank_place(f, i) + BANK_HEAD_SIZE + j * ENTRY_SIZE;
-    let held = unless(index < channels, BANK_ENTRY, p);
-    first(may_grow(f, ENTRY_SIZE), held)
+    unless(index < channels, BANK_ENTRY, p)
 }
 
 fn set_header(r: &[u8]) -> Verdict
@@ -158,25 +147,31 @@ fn set_header(r: &[u8]) -> Verdict
     first(author, description)
 }
 
+// What the judge says of an edit's record, where the file may grow.
+fn record_verdict(f: &[u8], k: Kind, i: usize, j: usize, r: &[u8]) -> Verdict
+    requires { ⌜ (Laid (now f)) × ((length (now r) ≡ recordLength k) × (placeOk k i j (plugOf (now f)) ≡ true)) ⌝ }
+    ensures { λ v. ⌜ (growthRule k (now (f .entry)) then v) ≡ resultRule k i j (now (r .entry)) (now (f .entry)) ⌝ }
+{
+    match k {
+        Kind::InsertContact => contact::judge::judge(r, contact_place(i)),
+        Kind::ReplaceContact => replace_contact(f, i, r),
+        Kind::InsertChannel => put_channel(f, i, r),
+        Kind::ReplaceChannel => put_channel(f, i, r),
+        Kind::InsertBank => name_bank(f, i, OFFSET_SIZE, r),
+        Kind::RenameBank => name_bank(f, i, 0, r),
+        Kind::InsertEntry => put_entry(f, i, j, r),
+        Kind::SetHeader => set_header(r),
+        Kind::RemoveContact | Kind::RemoveChannel | Kind::RemoveBank | Kind::RemoveEntry =>
+            Verdict::Good,
+    }
+}
+
 // What reading the result of an edit gives, told without building it.
 pub fn result_verdict(f: &[u8], k: Kind, i: usize, j: usize, r: &[u8]) -> Verdict
     requires { ⌜ (Laid (now f)) × ((length (now r) ≡ recordLength k) × (placeOk k i j (plugOf (now f)) ≡ true)) ⌝ }
     ensures { λ v. ⌜ v ≡ resultRule k i j (now (r .entry)) (now (f .entry)) ⌝ }
 {
-    match k {
-        Kind::InsertContact => insert_contact(f, i, r),
-        Kind::RemoveContact => Verdict::Good,
-        Kind::ReplaceContact => replace_contact(f, i, r),
-        Kind::InsertChannel => insert_channel(f, i, r),
-        Kind::RemoveChannel => Verdict::Good,
-        Kind::ReplaceChannel => replace_channel(f, i, r),
-        Kind::InsertBank => insert_bank(f, i, r),
-        Kind::RemoveBank => Verdict::Good,
-        Kind::RenameBank => rename_bank(f, i, r),
-        Kind::InsertEntry => insert_entry(f, i, j, r),
-        Kind::RemoveEntry => Verdict::Good,
-        Kind::SetHeader => set_header(r),
-    }
+    first(may_grow(f, k), record_verdict(f, k, i, j, r))
 }
 
 // The length of the result, of an edit whose places are there.
@@ -184,19 +179,12 @@ pub fn result_length(f: &[u8], k: Kind, i: usize) -> usize
     requires { ⌜ (Laid (now f)) × ((j : ℕ) × (placeOk k i j (plugOf (now f)) ≡ true)) ⌝ }
     ensures { λ n. ⌜ n ≡ resultLength k i (now (f .entry)) ⌝ }
 {
+    let n = f.len();
     match k {
-        Kind::InsertContact => f.len() + CONTACT_SIZE,
-        Kind::RemoveContact => f.len() - CONTACT_SIZE,
-        Kind::ReplaceContact => f.len(),
-        Kind::InsertChannel => f.len() + CHANNEL_SIZE,
-        Kind::RemoveChannel => f.len() - CHANNEL_SIZE,
-        Kind::ReplaceChannel => f.len(),
-        Kind::InsertBank => f.len() + EMPTY_BANK_SIZE,
-        Kind::RemoveBank => f.len()
-            - (EMPTY_BANK_SIZE + entry_count(f, bank_place(f, i)) * ENTRY_SIZE),
-        Kind::RenameBank => f.len(),
-        Kind::InsertEntry => f.len() + 2,
-        Kind::RemoveEntry => f.len() - 2,
-        Kind::SetHeader => f.len(),
+        Kind::RemoveContact => n - CONTACT_SIZE,
+        Kind::RemoveChannel => n - CHANNEL_SIZE,
+        Kind::RemoveBank => n - (EMPTY_BANK_SIZE + entry_count(f, bank_place(f, i)) * ENTRY_SIZE),
+        Kind::RemoveEntry => n - ENTRY_SIZE,
+        _ => n + growth(k),
     }
 }

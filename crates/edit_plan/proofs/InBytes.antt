@@ -390,7 +390,7 @@ module _ (i j : ℕ) (r f : List ℕ) (l : Laid f) where
   pub insert-contact-in-bytes : placeOk InsertContact i j (plugOf f) ≡ true
       → result InsertContact i j r f
       ≡ over (cut (contactsFollow (raised i) f) (contactPlace i) 0 r) 82 (littleBytes 2 (contactCount f + 1))
-  unfolding result edited placeOk
+  unfolding result edited
   insert-contact-in-bytes place =
       on-file _ (λ x. over (cut (contactsFollow (raised i) x) (contactPlace i) 0 r) 82 (littleBytes 2 (contactCount x + 1)))
       (plug-insert-contact (plugOf f) shape (raised i) i r (up-to i (length (plugOf f .contacts)) _ place))
@@ -398,14 +398,14 @@ module _ (i j : ℕ) (r f : List ℕ) (l : Laid f) where
   pub remove-contact-in-bytes : placeOk RemoveContact i j (plugOf f) ≡ true
       → result RemoveContact i j r f
       ≡ over (cut (contactsFollow (lowered i) f) (contactPlace i) 39 []) 82 (littleBytes 2 (contactCount f - 1))
-  unfolding result edited placeOk
+  unfolding result edited
   remove-contact-in-bytes place =
       on-file _ (λ x. over (cut (contactsFollow (lowered i) x) (contactPlace i) 39 []) 82 (littleBytes 2 (contactCount x - 1)))
       (plug-remove-contact (plugOf f) shape (lowered i) i (below i (length (plugOf f .contacts)) _ place))
 
   pub replace-contact-in-bytes : placeOk ReplaceContact i j (plugOf f) ≡ true → length r ≡ recordLength ReplaceContact
       → result ReplaceContact i j r f ≡ over f (contactPlace i) r
-  unfolding result edited placeOk recordLength
+  unfolding result edited
   replace-contact-in-bytes place wide =
       on-file _ (λ x. over x (contactPlace i) r)
       (replaced-contact (plugOf f) (shape .preamble) (shape .contacts) i r (below i (length (plugOf f .contacts)) _ place) wide)
@@ -413,7 +413,7 @@ module _ (i j : ℕ) (r f : List ℕ) (l : Laid f) where
   pub insert-channel-in-bytes : placeOk InsertChannel i j (plugOf f) ≡ true
       → result InsertChannel i j r f
       ≡ over (cut (entriesFollow (raised i) f) (channelPlace f i) 0 r) 84 (littleBytes 2 (channelCount f + 1))
-  unfolding result edited placeOk
+  unfolding result edited
   insert-channel-in-bytes place =
       on-file _ (λ x. over (cut (entriesFollow (raised i) x) (channelPlace x i) 0 r) 84 (littleBytes 2 (channelCount x + 1)))
       (plug-insert-channel (plugOf f) shape (raised i) i r (up-to i (length (plugOf f .channels)) _ place))
@@ -421,14 +421,14 @@ module _ (i j : ℕ) (r f : List ℕ) (l : Laid f) where
   pub remove-channel-in-bytes : placeOk RemoveChannel i j (plugOf f) ≡ true
       → result RemoveChannel i j r f
       ≡ over (cut (entriesFollow (lowered i) f) (channelPlace f i) 90 []) 84 (littleBytes 2 (channelCount f - 1))
-  unfolding result edited placeOk
+  unfolding result edited
   remove-channel-in-bytes place =
       on-file _ (λ x. over (cut (entriesFollow (lowered i) x) (channelPlace x i) 90 []) 84 (littleBytes 2 (channelCount x - 1)))
       (plug-remove-channel (plugOf f) shape (lowered i) i (below i (length (plugOf f .channels)) _ place))
 
   pub replace-channel-in-bytes : placeOk ReplaceChannel i j (plugOf f) ≡ true → length r ≡ recordLength ReplaceChannel
       → result ReplaceChannel i j r f ≡ over f (channelPlace f i) r
-  unfolding result edited placeOk recordLength
+  unfolding result edited
   replace-channel-in-bytes place wide =
       let c = plugOf f in
       on-file _ (λ x. over x (channelPlace x i) r)
@@ -436,5 +436,5 @@ module _ (i j : ℕ) (r f : List ℕ) (l : Laid f) where
       (replaced-channel c (shape .preamble) (shape .contacts) (shape .channels) i r (below i (length (c .channels)) _ place) wide))
 
   pub set-header-in-bytes : length r ≡ recordLength SetHeader → result SetHeader i j r f ≡ over f 10 r
-  unfolding result edited recordLength
+  unfolding result edited
   set-header-in-bytes wide = on-file _ (λ x. over x 10 r) (set-header (plugOf f) (shape .preamble) r wide)

@@ -462,7 +462,7 @@ module _ (i j : ℕ) (r f : List ℕ) (l : Laid f) where
 
   pub rename-bank-in-bytes : length r ≡ recordLength RenameBank → placeOk RenameBank i j (plugOf f) ≡ true
       → result RenameBank i j r f ≡ over f (bankPlace f i) r
-  unfolding result edited recordLength placeOk
+  unfolding result edited
   rename-bank-in-bytes wide place =
       let c = plugOf f in
       rename-is c shape i (below i (length (c .banks)) _ place) r wide ∙ ap (λ (t : List ℕ). over t (bankPlace t i) r) same
@@ -472,7 +472,7 @@ module _ (i j : ℕ) (r f : List ℕ) (l : Laid f) where
       → result InsertEntry i j r f
       ≡ over (cut (offsetsFollow (growthOf (More 2)) (i + 1) f) (bankPlace f i + 34 + j * 2) 0 r) (bankPlace f i + 32)
       (littleBytes 2 (entryCount f (bankPlace f i) + 1))
-  unfolding result edited recordLength placeOk
+  unfolding result edited
   insert-entry-in-bytes record-bytes wide place =
       let c = plugOf f in
       let g = below i (length (c .banks)) (leb j (entriesIn i (c .banks))) place in
@@ -485,7 +485,7 @@ module _ (i j : ℕ) (r f : List ℕ) (l : Laid f) where
       → result RemoveEntry i j r f
       ≡ over (cut (offsetsFollow (growthOf (Fewer 2)) (i + 1) f) (bankPlace f i + 34 + j * 2) 2 []) (bankPlace f i + 32)
       (littleBytes 2 (entryCount f (bankPlace f i) - 1))
-  unfolding result edited placeOk
+  unfolding result edited
   remove-entry-in-bytes place =
       let c = plugOf f in
       let g = below i (length (c .banks)) (ltb j (entriesIn i (c .banks))) place in
@@ -498,7 +498,7 @@ module _ (i j : ℕ) (r f : List ℕ) (l : Laid f) where
       → result InsertBank i j r f
       ≡ over (cut (cut (offsetsFollow (growthOf (More 34)) i f) (bankPlace f i) 0 (r ++ zeros 2)) (offsetPlace f i) 0
       (littleBytes 4 (bankPlace f i - banksPlace f))) 86 (littleBytes 2 (bankCount f + 1))
-  unfolding result edited recordLength placeOk
+  unfolding result edited
   insert-bank-in-bytes wide place =
       let c = plugOf f in
       insert-bank-is c shape i (up-to i (length (c .banks)) _ place) r wide
@@ -509,7 +509,7 @@ module _ (i j : ℕ) (r f : List ℕ) (l : Laid f) where
       → result RemoveBank i j r f
       ≡ over (cut (cut (offsetsFollow (growthOf (Fewer (34 + entryCount f (bankPlace f i) * 2))) (i + 1) f) (bankPlace f i)
       (34 + entryCount f (bankPlace f i) * 2) []) (offsetPlace f i) 4 []) 86 (littleBytes 2 (bankCount f - 1))
-  unfolding result edited placeOk
+  unfolding result edited
   remove-bank-in-bytes place =
       let c = plugOf f in
       remove-bank-is c shape i (below i (length (c .banks)) _ place)

@@ -15,8 +15,7 @@ use Rattle.layout.specs.Places.{contactCount, channelCount, bankCount, contactP
 use Rattle.layout.specs.Banks.{entryCount, offsetTarget, bankPlace}
 use Rattle.layout.proofs.Laws.{bank-leads, bank-inside, bank-first, bank-next, banks-end-is, contactCount-lt, channelCount-lt, bankCount-lt, entryCount-lt}
 use Rattle.plug.specs.Plug.{plugOf}
-use Rattle.plug.specs.Kinds.{recordLength}
-use Rattle.plug.specs.EditRules.{placeOk, countOk, entriesIn}
+use Rattle.plug.specs.EditRules.{placeOk, entriesIn}
 use Rattle.plug.specs.declared.Kind.{Kind}
 use Rattle.plug.specs.declared.Kind.the-variants.{InsertContact, RemoveContact, ReplaceContact, InsertChannel, RemoveChannel, ReplaceChannel, InsertBank, RemoveBank, RenameBank, InsertEntry, RemoveEntry, SetHeader}
 use Rattle.plug.specs.Laid.{Laid}
@@ -62,7 +61,6 @@ num-less f bytes k n d p q m = low-less (num f k (suc n)) d (getD f k 0) (num f 
 
 module _ (f : List ℕ) (bytes : AllBytes f) (i j : ℕ) where
   pub contact-in-there : Ready InsertContact i j f → (i ≤ contactCount f) × (contactCount f < 65535)
-  unfolding placeOk countOk
   contact-in-there h =
       let n = length (plugOf f .contacts) in
       let e : n ≡ contactCount f = contacts-count f in
@@ -71,7 +69,6 @@ module _ (f : List ℕ) (bytes : AllBytes f) (i j : ℕ) where
       (omega arith, omega arith)
 
   pub channel-in-there : Ready InsertChannel i j f → (i ≤ channelCount f) × (channelCount f < 65535)
-  unfolding placeOk countOk
   channel-in-there h =
       let n = length (plugOf f .channels) in
       let e : n ≡ channelCount f = channels-count f in
@@ -80,7 +77,6 @@ module _ (f : List ℕ) (bytes : AllBytes f) (i j : ℕ) where
       (omega arith, omega arith)
 
   pub bank-in-there : Ready InsertBank i j f → (i ≤ bankCount f) × (bankCount f < 65535)
-  unfolding placeOk countOk
   bank-in-there h =
       let n = length (plugOf f .banks) in
       let e : n ≡ bankCount f = banks-count f in
@@ -109,7 +105,6 @@ module _ (f : List ℕ) (bytes : AllBytes f) (i j : ℕ) where
 
   pub entry-in-there : Ready InsertEntry i j f
       → (i < bankCount f) × ((j ≤ entryCount f (bankPlace f i)) × (entryCount f (bankPlace f i) < 65535))
-  unfolding placeOk countOk
   entry-in-there h =
       let n = entriesIn i (plugOf f .banks) in
       let g = bank-there (leb j n) (h .1 .0) in
@@ -120,7 +115,6 @@ module _ (f : List ℕ) (bytes : AllBytes f) (i j : ℕ) where
 
   pub entry-out-there : Ready RemoveEntry i j f
       → (i < bankCount f) × ((j < entryCount f (bankPlace f i)) × (entryCount f (bankPlace f i) < 65536))
-  unfolding placeOk countOk
   entry-out-there h =
       let n = entriesIn i (plugOf f .banks) in
       let g = bank-there (ltb j n) (h .1 .0) in
@@ -129,27 +123,21 @@ module _ (f : List ℕ) (bytes : AllBytes f) (i j : ℕ) where
       (g .0, (omega arith, entryCount-lt f (bankPlace f i) bytes))
 
   pub contact-out-there : Ready RemoveContact i j f → (i < contactCount f) × (contactCount f < 65536)
-  unfolding placeOk
   contact-out-there h = contact-there _ (h .1 .0)
 
   pub contact-over-there : Ready ReplaceContact i j f → (i < contactCount f) × (contactCount f < 65536)
-  unfolding placeOk
   contact-over-there h = contact-there _ (h .1 .0)
 
   pub channel-out-there : Ready RemoveChannel i j f → (i < channelCount f) × (channelCount f < 65536)
-  unfolding placeOk
   channel-out-there h = channel-there _ (h .1 .0)
 
   pub channel-over-there : Ready ReplaceChannel i j f → (i < channelCount f) × (channelCount f < 65536)
-  unfolding placeOk
   channel-over-there h = channel-there _ (h .1 .0)
 
   pub bank-out-there : Ready RemoveBank i j f → (i < bankCount f) × (bankCount f < 65536)
-  unfolding placeOk
   bank-out-there h = bank-there _ (h .1 .0)
 
   pub bank-over-there : Ready RenameBank i j f → (i < bankCount f) × (bankCount f < 65536)
-  unfolding placeOk
   bank-over-there h = bank-there _ (h .1 .0)
 
 -- ---- the low byte of a count changes
@@ -219,23 +207,23 @@ module _ (f : List ℕ) (l : Laid f) where
 
 module _ (f : List ℕ) (bytes : AllBytes f) (i : ℕ) where
   pub contact-over : (p : ℕ) → Ready ReplaceContact i 0 f → p ≡ contactPlace i → Makes (Replace p) ReplaceContact i 0 f
-  unfolding Makes planned Fits recordLength
+  unfolding Makes planned Fits
   contact-over p h e r w s =
       let a = contact-fits f (h .0) i (contact-over-there f bytes i 0 h .0) in
       (rw e (sym (replace-contact-in-bytes i 0 r f (h .0) (h .1 .0) w)), omega arith)
 
   pub channel-over : (p : ℕ) → Ready ReplaceChannel i 0 f → p ≡ channelPlace f i → Makes (Replace p) ReplaceChannel i 0 f
-  unfolding Makes planned Fits recordLength
+  unfolding Makes planned Fits
   channel-over p h e r w s =
       let a = channel-fits f (h .0) i (channel-over-there f bytes i 0 h .0) in
       (rw e (sym (replace-channel-in-bytes i 0 r f (h .0) (h .1 .0) w)), omega arith)
 
   pub preamble-over : Ready SetHeader i 0 f → Makes (Replace 10) SetHeader i 0 f
-  unfolding Makes planned Fits recordLength
+  unfolding Makes planned Fits
   preamble-over h r w s = (sym (set-header-in-bytes i 0 r f (h .0) w), omega (arith, h .0 .header))
 
   pub bank-over : (p : ℕ) → Ready RenameBank i 0 f → p ≡ bankPlace f i → Makes (Replace p) RenameBank i 0 f
-  unfolding Makes planned Fits recordLength
+  unfolding Makes planned Fits
   bank-over p h e r w s =
       let a = bank-inside f i (h .0 .banks) (bank-over-there f bytes i 0 h .0) in
       (rw e (sym (rename-bank-in-bytes i 0 r f (h .0) w (h .1 .0))), omega arith)
@@ -252,7 +240,7 @@ module _ (f : List ℕ) (bytes : AllBytes f) (i : ℕ) where
 
   pub contact-out : (p n : ℕ) → Ready RemoveContact i 0 f → p ≡ contactPlace i → n ≡ contactCount f - 1
       → Makes (Contacts (Lower i) (counts 82 n p 39)) RemoveContact i 0 f
-  unfolding Makes planned counted shiftOf Fits recordLength
+  unfolding Makes planned counted shiftOf Fits
   contact-out p n h e d r w s =
       let a = contact-out-there f bytes i 0 h .0 in
       rw (e, d, nil-of r w) (
@@ -272,7 +260,7 @@ module _ (f : List ℕ) (bytes : AllBytes f) (i : ℕ) where
 
   pub channel-out : (p n : ℕ) → Ready RemoveChannel i 0 f → p ≡ channelPlace f i → n ≡ channelCount f - 1
       → Makes (Channels (Lower i) (counts 84 n p 90)) RemoveChannel i 0 f
-  unfolding Makes planned counted shiftOf Fits recordLength
+  unfolding Makes planned counted shiftOf Fits
   channel-out p n h e d r w s =
       let a = channel-out-there f bytes i 0 h .0 in
       rw (e, d, nil-of r w) (
@@ -351,7 +339,7 @@ module _ (f : List ℕ) (bytes : AllBytes f) (i j : ℕ) where
 
   pub entry-out : (b n p : ℕ) (t : Table) → Ready RemoveEntry i j f → b ≡ bankPlace f i → n ≡ entryCount f b - 1 → p ≡ b + 34 + j * 2
       → t ≡ tableFrom f (i + 1) (Fewer 2) → Makes (Entries t (counts (b + 32) n p 2)) RemoveEntry i j f
-  unfolding Makes planned counted tableMoved offsetsFollow recordLength
+  unfolding Makes planned counted tableMoved offsetsFollow
   entry-out b n p t h eb en ep et r w s =
       let a = entry-out-there f bytes i j h in
       let g = h .0 in
@@ -363,7 +351,7 @@ module _ (f : List ℕ) (bytes : AllBytes f) (i j : ℕ) where
 
   pub bank-in : (b x n o : ℕ) (t : Table) → Ready InsertBank i 0 f → b ≡ bankPlace f i → x ≡ b - banksPlace f → n ≡ bankCount f + 1
       → o ≡ offsetPlace f i → t ≡ tableFrom f i (More 34) → Makes (AddBank t b x (counts 86 n o 0)) InsertBank i 0 f
-  unfolding Makes planned counted tableMoved offsetsFollow recordLength
+  unfolding Makes planned counted tableMoved offsetsFollow
   bank-in b x n o t h eb ex en eo et r w s =
       let a = bank-in-there f bytes i 0 h in
       let g = h .0 in
@@ -376,7 +364,7 @@ module _ (f : List ℕ) (bytes : AllBytes f) (i j : ℕ) where
   pub bank-out : (b k n o : ℕ) (t : Table) → Ready RemoveBank i 0 f → b ≡ bankPlace f i → k ≡ 34 + entryCount f b * 2 → n ≡ bankCount f - 1
       → o ≡ offsetPlace f i → t ≡ tableFrom f (i + 1) (Fewer k)
       → Makes (DropBank t (record { at = b; size = k }) (counts 86 n o 4)) RemoveBank i 0 f
-  unfolding Makes planned counted tableMoved offsetsFollow recordLength
+  unfolding Makes planned counted tableMoved offsetsFollow
   bank-out b k n o t h eb ek en eo et r w s =
       let a = bank-out-there f bytes i 0 h in
       let g = h .0 in
@@ -389,7 +377,7 @@ module _ (f : List ℕ) (bytes : AllBytes f) (i j : ℕ) where
 -- ---- the kind of an edit, known from a match
 
 -- kinds whose second place is not used
-unfoldable pub onePlace : Kind → Bool
+abbrev pub onePlace : Kind → Bool
 onePlace InsertContact = true
 onePlace RemoveContact = true
 onePlace ReplaceContact = true
@@ -407,7 +395,6 @@ false-not-true : _≡_ {A = Bool} false true → ⊥
 false-not-true e = let z : _≡_ {A = ℕ} 0 1 = ap (λ (b : Bool). cond b 1 0) e in absurd (omega arith)
 
 second-none : (k : Kind) (i j : ℕ) (f : List ℕ) → onePlace k ≡ true → placeOk k i j (plugOf f) ≡ true → j ≡ 0
-unfolding onePlace placeOk
 second-none InsertContact i j f o h = eqb-true j 0 (and-right (leb i (length (plugOf f .contacts))) _ h)
 second-none RemoveContact i j f o h = eqb-true j 0 (and-right (ltb i (length (plugOf f .contacts))) _ h)
 second-none ReplaceContact i j f o h = eqb-true j 0 (and-right (ltb i (length (plugOf f .contacts))) _ h)

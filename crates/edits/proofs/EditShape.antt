@@ -48,7 +48,7 @@ entries-fit c a i g =
 
 pub edited-shaped : (k : Kind) (i j : ℕ) (r : List ℕ) (c : Plug) → Accepted c → AllBytes r → length r ≡ recordLength k
     → placeOk k i j c ≡ true → countOk k i c ≡ true → inUse k i c ≡ false → Shaped (edited k i j r c)
-unfolding edited recordLength placeOk countOk inUse
+unfolding edited
 edited-shaped InsertContact i j r c a b w p n u =
     shaped-insert-contact c a i r (up-to i (length (c .contacts)) _ p) (may-grow (length (c .contacts)) (a .shaped .contactsFit) n) w b
 edited-shaped RemoveContact i j r c a b w p n u = shaped-remove-contact c a i (below i (length (c .contacts)) _ p) u

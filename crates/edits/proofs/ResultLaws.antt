@@ -34,7 +34,7 @@ use Rattle.edits.proofs.EditShape.{up-to, below, may-grow, entries-fit,
 pub edit-judged : (k : Kind) (i j : ℕ) (r : List ℕ) (c : Plug) → Accepted c → AllBytes r → length r ≡ recordLength k
     → placeOk k i j c ≡ true → countOk k i c ≡ true → inUse k i c ≡ false
     → fileRule (plugBytes (edited k i j r c)) ≡ resultRule k i j r (plugBytes c)
-unfolding edited recordLength placeOk countOk inUse resultRule
+unfolding edited
 edit-judged InsertContact i j r c a b w p n u =
     insert-contact-is c a i r (up-to i (length (c .contacts)) _ p) (may-grow (length (c .contacts)) (a .shaped .contactsFit) n) w b
 edit-judged RemoveContact i j r c a b w p n u = remove-contact-is c a i (below i (length (c .contacts)) _ p) u

@@ -32,7 +32,7 @@ unfoldable pub keepsMode : List ℕ → ℕ → ℕ → ℕ → Verdict
 keepsMode f i mode p =
     unless (not (isIndex i (namedContact (part f p 90))) || eqb (getD (part f p 90) 0 0) mode) 9 (indexPlace (part f p 90) p)
 
-unfoldable pub resultRule : Kind → ℕ → ℕ → List ℕ → List ℕ → Verdict
+abbrev pub resultRule : Kind → ℕ → ℕ → List ℕ → List ℕ → Verdict
 resultRule InsertContact i j r f = mayGrow 39 f then contactRule r (contactPlace i)
 resultRule RemoveContact i j r f = Good
 resultRule ReplaceContact i j r f =
@@ -51,7 +51,7 @@ resultRule RemoveEntry i j r f = Good
 resultRule SetHeader i j r f = unless (textOk (part r 0 32)) 5 10 then unless (textOk (part r 32 32)) 5 42
 
 -- the length of an edit's result (proofs/LengthLaws.antt); a bank goes with its offset
-unfoldable pub resultLength : Kind → ℕ → List ℕ → ℕ
+abbrev pub resultLength : Kind → ℕ → List ℕ → ℕ
 resultLength InsertContact i f = length f + 39
 resultLength RemoveContact i f = length f - 39
 resultLength ReplaceContact i f = length f

@@ -4,3 +4,4 @@ pub mod FileOf
 pub mod Shape
 pub mod Judged
 pub mod PlaceLaws
+pub mod KindLaws

@@ -28,7 +28,7 @@ existing place count = ltb place count
 abbrev pub unused : ℕ → Bool
 unused place = eqb place 0
 
-unfoldable pub placeOk : Kind → ℕ → ℕ → Plug → Bool
+abbrev pub placeOk : Kind → ℕ → ℕ → Plug → Bool
 placeOk InsertContact i j c = insertion i (length (c .contacts)) && unused j
 placeOk RemoveContact i j c = existing i (length (c .contacts)) && unused j
 placeOk ReplaceContact i j c = existing i (length (c .contacts)) && unused j
@@ -46,7 +46,7 @@ placeOk SetHeader i j c = unused i && unused j
 abbrev pub canGrow : ℕ → Bool
 canGrow count = not (eqb count 65535)
 
-unfoldable pub countOk : Kind → ℕ → Plug → Bool
+abbrev pub countOk : Kind → ℕ → Plug → Bool
 countOk InsertContact i c = canGrow (length (c .contacts))
 countOk RemoveContact i c = true
 countOk ReplaceContact i c = true
@@ -78,7 +78,7 @@ unfoldable pub someHolds : ℕ → List Bank → Bool
 someHolds i [] = false
 someHolds i (b ∷ l) = holdsChannel i (b .entries) || someHolds i l
 
-unfoldable pub inUse : Kind → ℕ → Plug → Bool
+abbrev pub inUse : Kind → ℕ → Plug → Bool
 inUse InsertContact i c = false
 inUse RemoveContact i c = someNames i (c .channels)
 inUse ReplaceContact i c = false

@@ -25,7 +25,7 @@ kindOf n =
     (cond (eqb n 12) (read.Known SetHeader)
     read.NoKind)))))))))))
 
-unfoldable pub recordLength : Kind → ℕ
+abbrev pub recordLength : Kind → ℕ
 recordLength InsertContact = 39
 recordLength RemoveContact = 0
 recordLength ReplaceContact = 39

@@ -56,17 +56,11 @@ pub fn record_length(k: Kind) -> usize
     ensures { λ r. ⌜ r ≡ recordLength k ⌝ }
 {
     match k {
-        Kind::InsertContact => CONTACT_SIZE,
-        Kind::ReplaceContact => CONTACT_SIZE,
-        Kind::InsertChannel => CHANNEL_SIZE,
-        Kind::ReplaceChannel => CHANNEL_SIZE,
-        Kind::InsertBank => TEXT_SIZE,
-        Kind::RenameBank => TEXT_SIZE,
+        Kind::InsertContact | Kind::ReplaceContact => CONTACT_SIZE,
+        Kind::InsertChannel | Kind::ReplaceChannel => CHANNEL_SIZE,
+        Kind::InsertBank | Kind::RenameBank => TEXT_SIZE,
         Kind::InsertEntry => ENTRY_SIZE,
         Kind::SetHeader => TITLE_SIZE,
-        Kind::RemoveContact => 0,
-        Kind::RemoveChannel => 0,
-        Kind::RemoveBank => 0,
-        Kind::RemoveEntry => 0,
+        Kind::RemoveContact | Kind::RemoveChannel | Kind::RemoveBank | Kind::RemoveEntry => 0,
     }
 }

@@ -1,85 +1,20 @@
--- Each arm knows its kind: the definition's rule for it.
+-- Each arm knows its kinds: the definition's rule for them.
+use mathlib.Core.Path.{refl}
+use mathlib.Core.List.{[], _∷_}
 use Rattle.plug.specs.Kinds.{recordLength}
-use borrow.Author.Needs.{needs}
+use Rattle.plug.proofs.KindLaws.{one-of}
 use Rattle.plug.proofs.record_length.Statement.{statement}
 use Rattle.plug.proofs.record_length.Tie as tie
-
-enum-told : tie.Need-enum-told
-enum-told c = search needs
-
-returns : tie.Need-returns
-unfolding recordLength
-returns c = rw (c .enum-told .given .1)
-
-returns-2 : tie.Need-returns-2
-unfolding recordLength
-returns-2 c = rw (c .enum-told2 .given .1)
-
-returns-3 : tie.Need-returns-3
-unfolding recordLength
-returns-3 c = rw (c .enum-told3 .given .1)
-
-returns-4 : tie.Need-returns-4
-unfolding recordLength
-returns-4 c = rw (c .enum-told4 .given .1)
-
-returns-5 : tie.Need-returns-5
-unfolding recordLength
-returns-5 c = rw (c .enum-told5 .given .1)
-
-returns-6 : tie.Need-returns-6
-unfolding recordLength
-returns-6 c = rw (c .enum-told6 .given .1)
-
-returns-7 : tie.Need-returns-7
-unfolding recordLength
-returns-7 c = rw (c .enum-told7 .given .1)
-
-returns-8 : tie.Need-returns-8
-unfolding recordLength
-returns-8 c = rw (c .enum-told8 .given .1)
-
-returns-9 : tie.Need-returns-9
-unfolding recordLength
-returns-9 c = rw (c .enum-told9 .given .1)
-
-returns-10 : tie.Need-returns-10
-unfolding recordLength
-returns-10 c = rw (c .enum-told10 .given .1)
-
-returns-11 : tie.Need-returns-11
-unfolding recordLength
-returns-11 c = rw (c .enum-told11 .given .1)
-
-returns-12 : tie.Need-returns-12
-unfolding recordLength
-returns-12 c = rw (c .enum-told12 .given .1)
 
 pub record-length-spec : {M : Type 1} → statement M
 record-length-spec =
     tie.close
     (tie.spec
-    enum-told
-    (search needs)
-    (search needs)
-    (search needs)
-    (search needs)
-    (search needs)
-    (search needs)
-    (search needs)
-    (search needs)
-    (search needs)
-    (search needs)
-    (search needs)
-    returns
-    returns-2
-    returns-3
-    returns-4
-    returns-5
-    returns-6
-    returns-7
-    returns-8
-    returns-9
-    returns-10
-    returns-11
-    returns-12)
+    (λ c. c .match .keys4)
+    (λ c. c .match .keys5)
+    (λ c. one-of recordLength 39 (c .before .args .k) (0 ∷ 2 ∷ []) refl (c .match .keys1))
+    (λ c. one-of recordLength 90 (c .before .args .k) (3 ∷ 5 ∷ []) refl (c .match .keys2))
+    (λ c. one-of recordLength 32 (c .before .args .k) (6 ∷ 8 ∷ []) refl (c .match .keys3))
+    (λ c. rw (c .enum-told .given .1))
+    (λ c. rw (c .enum-told2 .given .1))
+    (λ c. one-of recordLength 0 (c .before .args .k) (1 ∷ 4 ∷ 7 ∷ 10 ∷ []) refl (c .match .keys6)))

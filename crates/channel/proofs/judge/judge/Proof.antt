@@ -6,17 +6,7 @@ use Rattle.channel.proofs.judge.judge.Tie as tie
 
 returns : tie.Need-returns
 unfolding channelRule
-returns c =
-    let d = c .before .before .before .before .before in
-    rw (
-      c .first3 .ensures,
-      c .before .first2 .ensures,
-      c .before .before .first .ensures,
-      c .before .before .before .judge-info .ensures,
-      c .before .before .before .before .judge-location .ensures,
-      d .judge-texts .ensures,
-      d .before .judge-head .ensures,
-    )
+returns c = cc
 
 pub judge-spec : {M : Type 1} → statement M
 judge-spec =

@@ -6,20 +6,7 @@ use Rattle.channel.proofs.judge.judge_dmr.Tie as tie
 
 returns : tie.Need-returns
 unfolding dmrRule
-returns c =
-    let d = c .before .before .before .before .before in
-    rw (
-      c .first3 .ensures,
-      c .before .first2 .ensures,
-      c .before .before .first .ensures,
-      c .before .before .before .field4 .ensures,
-      c .before .before .before .before .byte-at2 .ensures,
-      d .field3 .ensures,
-      d .before .field2 .ensures,
-      d .before .before .slot-ok .ensures,
-      d .before .before .before .byte-at .ensures,
-      d .before .before .before .before .field .ensures,
-    )
+returns c = cc
 
 pub judge-dmr-spec : {M : Type 1} → statement M
 judge-dmr-spec =

@@ -6,12 +6,7 @@ use Rattle.channel.proofs.judge.judge_texts.Tie as tie
 
 returns : tie.Need-returns
 unfolding textsRule
-returns c =
-    rw (
-      c .first .ensures,
-      c .before .text-field2 .ensures,
-      c .before .before .text-field .ensures,
-    )
+returns c = cc
 
 pub judge-texts-spec : {M : Type 1} → statement M
 judge-texts-spec =

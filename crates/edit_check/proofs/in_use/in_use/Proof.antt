@@ -1,88 +1,27 @@
--- Each arm knows its kind: the definition's rule for it.
+-- Each arm knows its kinds: the definition's rule for them.
+use mathlib.Core.Path.{refl}
+use mathlib.Core.Bool.{false}
+use mathlib.Core.List.{[], _∷_}
 use Rattle.plug.specs.EditRules.{inUse}
-use mathlib.Core.Path.{_∙_}
+use Rattle.plug.specs.Plug.{plugOf}
+use Rattle.plug.proofs.KindLaws.{one-of}
 use borrow.Author.Needs.{needs}
 use Rattle.edit_check.proofs.in_use.in_use.Statement.{statement}
 use Rattle.edit_check.proofs.in_use.in_use.Tie as tie
 
-enum-told : tie.Need-enum-told
-enum-told c = search needs
-
-returns : tie.Need-returns
-unfolding inUse
-returns c = c .some-names .ensures ∙ rw (c .before .enum-told .given .1)
-
-returns-2 : tie.Need-returns-2
-unfolding inUse
-returns-2 c = c .some-holds .ensures ∙ rw (c .before .enum-told2 .given .1)
-
 returns-3 : tie.Need-returns-3
-unfolding inUse
-returns-3 c = rw (c .enum-told3 .given .1)
-
-returns-4 : tie.Need-returns-4
-unfolding inUse
-returns-4 c = rw (c .enum-told4 .given .1)
-
-returns-5 : tie.Need-returns-5
-unfolding inUse
-returns-5 c = rw (c .enum-told5 .given .1)
-
-returns-6 : tie.Need-returns-6
-unfolding inUse
-returns-6 c = rw (c .enum-told6 .given .1)
-
-returns-7 : tie.Need-returns-7
-unfolding inUse
-returns-7 c = rw (c .enum-told7 .given .1)
-
-returns-8 : tie.Need-returns-8
-unfolding inUse
-returns-8 c = rw (c .enum-told8 .given .1)
-
-returns-9 : tie.Need-returns-9
-unfolding inUse
-returns-9 c = rw (c .enum-told9 .given .1)
-
-returns-10 : tie.Need-returns-10
-unfolding inUse
-returns-10 c = rw (c .enum-told10 .given .1)
-
-returns-11 : tie.Need-returns-11
-unfolding inUse
-returns-11 c = rw (c .enum-told11 .given .1)
-
-returns-12 : tie.Need-returns-12
-unfolding inUse
-returns-12 c = rw (c .enum-told12 .given .1)
+returns-3 c =
+    let a = c .before .before .args in
+    one-of (λ k. inUse k (a .i) (plugOf (a .f .now))) false (a .k) (0 ∷ 2 ∷ 3 ∷ 5 ∷ 6 ∷ 7 ∷ 8 ∷ 9 ∷ 10 ∷ 11 ∷ []) refl (c .match .keys3)
 
 pub in-use-spec : {M : Type 1} → statement M
 in-use-spec =
     tie.close
     (tie.spec
-    enum-told
+    (λ c. c .match .keys1)
     (search needs)
+    (λ c. c .match .keys2)
     (search needs)
-    (search needs)
-    (search needs)
-    (search needs)
-    (search needs)
-    (search needs)
-    (search needs)
-    (search needs)
-    (search needs)
-    (search needs)
-    (search needs)
-    (search needs)
-    returns
-    returns-2
-    returns-3
-    returns-4
-    returns-5
-    returns-6
-    returns-7
-    returns-8
-    returns-9
-    returns-10
-    returns-11
-    returns-12)
+    (λ c. rw (c .some-names .ensures, c .before .enum-told .given .1))
+    (λ c. rw (c .some-holds .ensures, c .before .enum-told2 .given .1))
+    returns-3)
