@@ -1,6 +1,7 @@
 // A change made in place: indexes or offsets first, then the cuts, then the count.
 use fields::put::put;
 use fields::put::put_le16;
+use format::sizes::BANK_HEAD_SIZE;
 use layout::places::bank_count;
 use layout::places::banks_place;
 use layout::places::channel_count;
@@ -72,7 +73,7 @@ fn make_bank(d: &mut [u8], len: usize, t: Table, at: usize, offset: u32, c: Coun
     let growth = t.growth;
     move_offsets(&mut d[..len], t.start, t.many, growth);
     splice(d, len, at, 0, &bank);
-    make_counted(d, len + 34, c, &bytes);
+    make_counted(d, len + BANK_HEAD_SIZE, c, &bytes);
 }
 
 fn drop_bank(d: &mut [u8], len: usize, t: Table, b: Block, c: Counted, r: &[u8])
