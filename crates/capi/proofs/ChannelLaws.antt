@@ -13,9 +13,9 @@ use Rattle.channel.specs.Values.{modeOk}
 use Rattle.channel_writer.specs.Writing.{channelGiven, channelWritten}
 use Rattle.channel.specs.declared.Common.{Common}
 use Rattle.channel.specs.declared.Info.{Info}
-use Rattle.capi.specs.Channels.{commonFrom, infoFrom, channelAsked, channelLeft}
-use Rattle.capi.specs.declared.channel_fields.CommonFields.{CommonFields}
-use Rattle.capi.specs.declared.channel_fields.InfoFields.{InfoFields}
+use Rattle.capi_convert.specs.Channels.{infoFrom}
+use Rattle.capi.specs.Write.{channelAsked, channelLeft, ChannelAsked}
+use Rattle.capi_convert.specs.declared.channels.InfoFields.{InfoFields}
 
 mode-known : (m : ℕ) → m ≤ 2 → modeOk m ≡ true
 unfolding modeOk
@@ -37,9 +37,9 @@ unfolding unless _then_
 again true n p v = refl
 again false n p v = refl
 
-module _ (out name description : List ℕ) (common : CommonFields) (info : InfoFields) where
+module _ (out name description : List ℕ) (common : Common) (info : InfoFields) where
   asked-known : info .mode ≤ 2
-      → channelAsked (length out) name description common info ≡ channelGiven (length out) name description (commonFrom common) (infoFrom info)
+      → channelAsked (length out) name description common info ≡ channelGiven (length out) name description common (infoFrom info)
   unfolding channelAsked channelGiven unless _then_
   asked-known h = rw (mode-known (info .mode) h) (again (leb 90 (length out)) 25 0 _)
 
@@ -48,17 +48,17 @@ module _ (out name description : List ℕ) (common : CommonFields) (info : InfoF
   asked-foreign h = rw (mode-foreign (info .mode) h)
 
   -- the library's answer is the one asked for
-  pub channel-goes : (c : Common) (i : Info) (r : Verdict) (left : List ℕ) → info .mode ≤ 2 → c ≡ commonFrom common → i ≡ infoFrom info
-      → (r ≡ channelGiven (length out) name description c i) × (left ≡ channelWritten out name description c i)
-      → (r ≡ channelAsked (length out) name description common info) × (left ≡ channelLeft out name description common info)
+  pub channel-goes : (i : Info) (r : Verdict) (left : List ℕ) → info .mode ≤ 2 → i ≡ infoFrom info
+      → (r ≡ channelGiven (length out) name description common i) × (left ≡ channelWritten out name description common i)
+      → ChannelAsked out name description common info r left
   unfolding channelWritten channelLeft
-  channel-goes c i r left h ce ie w =
+  channel-goes i r left h ie w =
       let known = asked-known h in
-      (rw (known, ← ce, ← ie) (w .0), rw (known, ← ce, ← ie) (w .1))
+      (rw (known, ← ie) (w .0), rw (known, ← ie) (w .1))
 
   -- the answer to a foreign mode, and the buffer as lent
   pub channel-stops : (r : Verdict) → 2 < info .mode → r ≡ unless (leb 90 (length out)) 25 0 then Refused 6 0
-      → (r ≡ channelAsked (length out) name description common info) × (out ≡ channelLeft out name description common info)
+      → ChannelAsked out name description common info r out
   unfolding channelLeft
   channel-stops r h e =
       let foreign = asked-foreign h in

@@ -12,8 +12,9 @@ use Rattle.fields.specs.declared.rule.Verdict.{Verdict}
 use Rattle.fields.specs.declared.rule.Verdict.the-variants.{Good, Refused}
 use Rattle.contact.specs.Contact.{modeOk, contactGiven, contactWritten}
 use Rattle.contact.specs.declared.ContactInfo.{ContactInfo}
-use Rattle.capi.specs.Contacts.{infoFrom, contactAsked, contactLeft}
-use Rattle.capi.specs.declared.contacts.ContactFields.{ContactFields}
+use Rattle.capi_convert.specs.Contacts.{infoFrom}
+use Rattle.capi.specs.Write.{contactAsked, contactLeft, ContactAsked}
+use Rattle.capi_convert.specs.declared.contacts.ContactFields.{ContactFields}
 
 pub dmr-known : (m : ℕ) → m ≡ 1 → modeOk m ≡ true
 unfolding modeOk
@@ -55,7 +56,7 @@ stopped (Refused m q) b n p out s = refl
 -- the library's answer is the one asked for
 pub contact-goes : (out name : List ℕ) (v : ContactFields) (info : ContactInfo) (r : Verdict) (left : List ℕ) → modeOk (v .mode) ≡ true
     → info ≡ infoFrom v → (r ≡ contactGiven (length out) name info) × (left ≡ contactWritten out name info)
-    → (r ≡ contactAsked (length out) name v) × (left ≡ contactLeft out name v)
+    → ContactAsked out name v r left
 unfolding contactWritten contactLeft
 contact-goes out name v info r left ok means w =
     let known = asked-known (length out) name v ok in
@@ -64,7 +65,7 @@ contact-goes out name v info r left ok means w =
 -- the answer to a foreign mode, and the buffer as lent
 pub contact-stops : (out name : List ℕ) (v : ContactFields) (r : Verdict) → modeOk (v .mode) ≡ false
     → r ≡ unless (leb 39 (length out)) 25 0 then unless (givenOk name) 5 0 then Refused 6 32
-    → (r ≡ contactAsked (length out) name v) × (out ≡ contactLeft out name v)
+    → ContactAsked out name v r out
 unfolding contactLeft
 contact-stops out name v r bad e =
     let foreign = asked-foreign (length out) name v bad in

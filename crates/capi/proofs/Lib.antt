@@ -1,5 +1,4 @@
 -- What the proofs of several functions use.
-mod Laws
 mod ContactLaws
 mod ChannelLaws
 mod CallLaws

@@ -2,17 +2,18 @@
 use mathlib.Core.Path.{_≡_}
 use Prim.Native.Nat.{ℕ}
 use mathlib.Core.List.{List}
-use Rattle.journal.specs.Machine.{Outcome}
-use Rattle.journal.specs.declared.answer.Answer.{Answer}
-use Rattle.journal.specs.declared.answer.Answer.the-variants.{Done, Refused}
-use Rattle.capi.specs.declared.calls.CallAnswer.{CallAnswer}
-
-unfoldable pub callAnswer : Answer → CallAnswer
-callAnswer (Done len used entries) = record { number = 0; place = 0; length = len; used = used; entries = entries }
-callAnswer (Refused n p) = record { number = n; place = p; length = 0; used = 0; entries = 0 }
+use Rattle.journal.specs.Machine.{State, Outcome, editStep}
+use Rattle.edits.specs.Setting.{editing}
+use Rattle.preconditions.specs.Calls.{asked}
+use Rattle.capi_convert.specs.Numbers.{callAnswer}
+use Rattle.capi_convert.specs.declared.numbers.CallAnswer.{CallAnswer}
 
 -- a call's answer and both buffers afterwards are those of an outcome
 pub record Called (o : Outcome) (r : CallAnswer) (room history : List ℕ) : Type 0 where
   pub answered : r ≡ callAnswer (o .answer)
   pub room-is : room ≡ o .room
   pub history-is : history ≡ o .history
+
+-- those of an edit: its kind, its two places, its record and the buffers lent
+abbrev pub Edited : ℕ → ℕ → ℕ → List ℕ → State → CallAnswer → List ℕ → List ℕ → Type 0
+Edited kind first second bytes b r room history = Called (editStep editing (asked kind first second bytes) b) r room history

@@ -1,7 +1,3 @@
--- What the C interface answers: the library's answers as numbers.
-pub mod Answers
-pub mod Files
-pub mod Contacts
-pub mod Channels
-pub mod Numbers
+-- What the writers and the two calls of the C interface answer.
+pub mod Write
 pub mod Calls

@@ -19,29 +19,33 @@ pub const MEDIUM: u8 = 1;
 
 pub const WIDE: u8 = 2;
 
+// Laid out as in C, for include/codeplug.h: so are Location and Common.
+#[repr(C)]
 pub struct Traits {
     pub bandwidth: u8,
     pub receive_only: bool,
 }
 
 // Degrees: a floor and ten-thousandths above it. The altitude is in metres plus 500, as the file has it.
+#[repr(C)]
 pub struct Location {
-    pub latitude: i8,
     pub latitude_e4: u16,
-    pub longitude: i8,
     pub longitude_e4: u16,
     pub altitude_plus_500: u16,
+    pub latitude: i8,
+    pub longitude: i8,
 }
 
 // What a channel has whatever its mode, but for its texts. Frequencies are in hertz.
+#[repr(C)]
 pub struct Common {
-    pub traits: Traits,
-    pub power: u8,
     pub receive_hz: u32,
     pub transmit_hz: u32,
+    pub location: Location,
+    pub traits: Traits,
+    pub power: u8,
     pub scan_list: u8,
     pub group_list: u8,
-    pub location: Location,
 }
 
 // The contact that a channel calls, or none: a blank is not contact 0.

@@ -47,7 +47,8 @@ fn location_of(s: &[u8]) -> Location
     }
 }
 
-fn common_of(s: &[u8]) -> Common
+// What a good record's bytes say of any mode, but for the texts.
+pub fn common_of(s: &[u8]) -> Common
     ensures { λ r. ⌜ r ≡ commonOf (now (s .entry)) ⌝ }
 {
     let traits = traits_of(byte_at(s, 1));
@@ -63,7 +64,8 @@ fn common_of(s: &[u8]) -> Common
     }
 }
 
-fn fm_of(s: &[u8]) -> FmInfo
+// What they say by the mode.
+pub fn fm_of(s: &[u8]) -> FmInfo
     ensures { λ r. ⌜ r ≡ fmOf (now (s .entry)) ⌝ }
 {
     FmInfo {
@@ -72,7 +74,7 @@ fn fm_of(s: &[u8]) -> FmInfo
     }
 }
 
-fn dmr_of(s: &[u8]) -> DmrInfo
+pub fn dmr_of(s: &[u8]) -> DmrInfo
     ensures { λ r. ⌜ r ≡ dmrOf (now (s .entry)) ⌝ }
 {
     DmrInfo {
@@ -82,7 +84,7 @@ fn dmr_of(s: &[u8]) -> DmrInfo
     }
 }
 
-fn m17_of(s: &[u8]) -> M17Info
+pub fn m17_of(s: &[u8]) -> M17Info
     ensures { λ r. ⌜ r ≡ m17Of (now (s .entry)) ⌝ }
 {
     let access = halves_of(byte_at(s, 85));

@@ -18,13 +18,17 @@ use Rattle.validation.specs.File.{contactAt, channelAt}
 use Rattle.codeplug.specs.Read.{bankAnswer, entriesAnswer}
 use Rattle.codeplug.specs.declared.BankRead.{BankRead}
 
+abbrev pub contactOnceRule : List ℕ → ℕ → Verdict
+contactOnceRule f n = unless (ltb n (contactCount f)) 33 0 then contactAt f (contactPlace n)
+
 unfoldable pub contactOnce : List ℕ → ℕ → ContactRead
-contactOnce f n =
-    contactAnswer (unless (ltb n (contactCount f)) 33 0 then contactAt f (contactPlace n)) (part f (contactPlace n) 39)
+contactOnce f n = contactAnswer (contactOnceRule f n) (part f (contactPlace n) 39)
+
+abbrev pub channelOnceRule : List ℕ → ℕ → Verdict
+channelOnceRule f n = unless (ltb n (channelCount f)) 33 0 then channelAt f (channelPlace f n)
 
 unfoldable pub channelOnce : List ℕ → ℕ → ChannelRead
-channelOnce f n =
-    channelAnswer (unless (ltb n (channelCount f)) 33 0 then channelAt f (channelPlace f n)) (part f (channelPlace f n) 90)
+channelOnce f n = channelAnswer (channelOnceRule f n) (part f (channelPlace f n) 90)
 
 -- where the offset table says that bank n starts
 unfoldable pub tablePlace : List ℕ → ℕ → ℕ

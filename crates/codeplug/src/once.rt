@@ -1,15 +1,15 @@
 // Records of a file that was judged before, without judging it again. Any bytes are answered.
 use crate::BankRead;
 use crate::bank_entries::entries_of;
+use crate::bytes::bank_bytes;
+use crate::bytes::channel_bytes;
+use crate::bytes::contact_bytes;
 use crate::read::bank_answer;
 use channel_reader::ChannelRead;
 use contact::ContactRead;
 use fields::rule::Verdict;
 use fields::rule::first;
 use format::refusals::NO_PLACE;
-use format::sizes::BANK_HEAD_SIZE;
-use format::sizes::CHANNEL_SIZE;
-use format::sizes::CONTACT_SIZE;
 use layout::banks::bank_head;
 use layout::banks::offset_at;
 use layout::banks::offset_leads;
@@ -18,35 +18,47 @@ use layout::places::channel_count;
 use layout::places::channel_place;
 use layout::places::contact_count;
 use layout::places::contact_place;
-use layout::places::lend;
 use layout::places::offset_place;
 use validation::records::channel_at;
 use validation::records::contact_at;
 ghost use mathlib.Core.Path.{_≡_};
-ghost use Rattle.codeplug.specs.Once.{contactOnce, channelOnce, bankOnceRule, bankOnce, entriesOnce};
+ghost use Rattle.codeplug.specs.Once.{contactOnceRule, contactOnce, channelOnceRule, channelOnce, bankOnceRule, bankOnce, entriesOnce};
+ghost use Rattle.codeplug.specs.There.{ContactThere, ChannelThere, BankThere};
+
+pub fn contact_verdict(f: &[u8], n: usize) -> Verdict
+    ensures { λ r. ⌜ (r ≡ contactOnceRule (now (f .entry)) n) × (r ≡ Verdict.Good → ContactThere (now (f .entry)) n) ⌝ }
+{
+    if contact_count(f) <= n {
+        return Verdict::Refused(NO_PLACE, 0);
+    }
+    contact_at(f, contact_place(n))
+}
 
 pub fn contact(f: &[u8], n: usize) -> ContactRead
     ensures { λ r. ⌜ r ≡ contactOnce (now (f .entry)) n ⌝ }
 {
-    if contact_count(f) <= n {
-        return contact::read::answer(Verdict::Refused(NO_PLACE, 0), f);
+    let verdict = contact_verdict(f, n);
+    contact::read::answer(verdict, contact_bytes(f, n, verdict))
+}
+
+pub fn channel_verdict(f: &[u8], n: usize) -> Verdict
+    ensures { λ r. ⌜ (r ≡ channelOnceRule (now (f .entry)) n) × (r ≡ Verdict.Good → ChannelThere (now (f .entry)) n) ⌝ }
+{
+    if channel_count(f) <= n {
+        return Verdict::Refused(NO_PLACE, 0);
     }
-    let p = contact_place(n);
-    contact::read::answer(contact_at(f, p), lend(f, p, CONTACT_SIZE))
+    channel_at(f, channel_place(f, n))
 }
 
 pub fn channel(f: &[u8], n: usize) -> ChannelRead
     ensures { λ r. ⌜ r ≡ channelOnce (now (f .entry)) n ⌝ }
 {
-    if channel_count(f) <= n {
-        return channel_reader::answer(Verdict::Refused(NO_PLACE, 0), f);
-    }
-    let p = channel_place(f, n);
-    channel_reader::answer(channel_at(f, p), lend(f, p, CHANNEL_SIZE))
+    let verdict = channel_verdict(f, n);
+    channel_reader::answer(verdict, channel_bytes(f, n, verdict))
 }
 
-fn bank_verdict(f: &[u8], n: usize) -> Verdict
-    ensures { λ r. ⌜ r ≡ bankOnceRule (now (f .entry)) n ⌝ }
+pub fn bank_verdict(f: &[u8], n: usize) -> Verdict
+    ensures { λ r. ⌜ (r ≡ bankOnceRule (now (f .entry)) n) × (r ≡ Verdict.Good → BankThere (now (f .entry)) n) ⌝ }
 {
     if bank_count(f) <= n {
         return Verdict::Refused(NO_PLACE, 0);
@@ -59,13 +71,7 @@ pub fn bank(f: &[u8], n: usize) -> BankRead
     ensures { λ r. ⌜ r ≡ bankOnce (now (f .entry)) n ⌝ }
 {
     let verdict = bank_verdict(f, n);
-    if let Verdict::Refused(_, _) = verdict {
-        return bank_answer(verdict, f);
-    }
-    bank_answer(
-        verdict,
-        lend(f, offset_leads(f, offset_place(f, n)), BANK_HEAD_SIZE),
-    )
+    bank_answer(verdict, bank_bytes(f, n, verdict))
 }
 
 // The bytes of bank n's entries; fewer than its entry count says where the file ends before.

@@ -3,6 +3,9 @@ use crate::Bank;
 use crate::BankRead;
 use crate::Header;
 use crate::HeaderRead;
+use crate::bytes::bank_bytes;
+use crate::bytes::channel_bytes;
+use crate::bytes::contact_bytes;
 use channel_reader::ChannelRead;
 use contact::ContactRead;
 use fields::numbers::le16;
@@ -12,25 +15,19 @@ use fields::rule::Verdict;
 use fields::rule::first;
 use fields::rule::unless;
 use format::refusals::NO_PLACE;
-use format::sizes::BANK_HEAD_SIZE;
-use format::sizes::CHANNEL_SIZE;
-use format::sizes::CONTACT_SIZE;
 use layout::Counts;
-use layout::banks::offset_leads;
 use layout::places::bank_count;
 use layout::places::channel_count;
-use layout::places::channel_place;
 use layout::places::contact_count;
-use layout::places::contact_place;
 use layout::places::counts_of;
-use layout::places::lend;
-use layout::places::offset_place;
 use validation::judge::verdict_on;
 ghost use mathlib.Core.Path.{_≡_};
 ghost use Prim.Native.Nat.{_≤_, _<_};
 ghost use lib.ListN.{length};
 ghost use Rattle.validation.specs.File.{fileRule};
 ghost use Rattle.codeplug.specs.Read.{headerOf, blankHeader, headerRead, placeRule, contactRead, channelRead, bankOf, blankBank, bankAnswer, bankRead};
+ghost use Rattle.codeplug.specs.There.{ContactThere, ChannelThere, BankLed};
+ghost use Rattle.layout.specs.Places.{contactCount, channelCount, bankCount};
 
 fn header_of(f: &[u8]) -> Header
     requires { ⌜ 88 ≤ length (now f) ⌝ }
@@ -61,6 +58,13 @@ fn blank_header() -> Header
     }
 }
 
+// The file's verdict, which is the header's.
+pub fn header_verdict(f: &[u8]) -> Verdict
+    ensures { λ r. ⌜ (r ≡ fileRule (now (f .entry))) × (r ≡ Verdict.Good → 88 ≤ length (now (f .entry))) ⌝ }
+{
+    verdict_on(f)
+}
+
 pub fn header(f: &[u8]) -> HeaderRead
     ensures { λ r. ⌜ r ≡ headerRead (now (f .entry)) ⌝ }
 {
@@ -83,24 +87,30 @@ pub(crate) fn place(f: &[u8], n: usize, count: usize) -> Verdict
     first(verdict_on(f), unless(n < count, NO_PLACE, 0))
 }
 
+pub fn contact_verdict(f: &[u8], n: usize) -> Verdict
+    ensures { λ r. ⌜ (r ≡ placeRule (now (f .entry)) n (contactCount (now (f .entry)))) × (r ≡ Verdict.Good → ContactThere (now (f .entry)) n) ⌝ }
+{
+    place(f, n, contact_count(f))
+}
+
 pub fn contact(f: &[u8], n: usize) -> ContactRead
     ensures { λ r. ⌜ r ≡ contactRead (now (f .entry)) n ⌝ }
 {
-    let verdict = place(f, n, contact_count(f));
-    if let Verdict::Refused(_, _) = verdict {
-        return contact::read::answer(verdict, f);
-    }
-    contact::read::answer(verdict, lend(f, contact_place(n), CONTACT_SIZE))
+    let verdict = contact_verdict(f, n);
+    contact::read::answer(verdict, contact_bytes(f, n, verdict))
+}
+
+pub fn channel_verdict(f: &[u8], n: usize) -> Verdict
+    ensures { λ r. ⌜ (r ≡ placeRule (now (f .entry)) n (channelCount (now (f .entry)))) × (r ≡ Verdict.Good → ChannelThere (now (f .entry)) n) ⌝ }
+{
+    place(f, n, channel_count(f))
 }
 
 pub fn channel(f: &[u8], n: usize) -> ChannelRead
     ensures { λ r. ⌜ r ≡ channelRead (now (f .entry)) n ⌝ }
 {
-    let verdict = place(f, n, channel_count(f));
-    if let Verdict::Refused(_, _) = verdict {
-        return channel_reader::answer(verdict, f);
-    }
-    channel_reader::answer(verdict, lend(f, channel_place(f, n), CHANNEL_SIZE))
+    let verdict = channel_verdict(f, n);
+    channel_reader::answer(verdict, channel_bytes(f, n, verdict))
 }
 
 fn bank_of(s: &[u8]) -> Bank
@@ -139,16 +149,16 @@ pub(crate) fn bank_answer(verdict: Verdict, s: &[u8]) -> BankRead
     }
 }
 
+pub fn bank_verdict(f: &[u8], n: usize) -> Verdict
+    ensures { λ r. ⌜ (r ≡ placeRule (now (f .entry)) n (bankCount (now (f .entry)))) × (r ≡ Verdict.Good → BankLed (now (f .entry)) n) ⌝ }
+{
+    place(f, n, bank_count(f))
+}
+
 // The name and entry count of bank n. Of an accepted file the offset table leads to each bank.
 pub fn bank(f: &[u8], n: usize) -> BankRead
     ensures { λ r. ⌜ r ≡ bankRead (now (f .entry)) n ⌝ }
 {
-    let verdict = place(f, n, bank_count(f));
-    if let Verdict::Refused(_, _) = verdict {
-        return bank_answer(verdict, f);
-    }
-    bank_answer(
-        verdict,
-        lend(f, offset_leads(f, offset_place(f, n)), BANK_HEAD_SIZE),
-    )
+    let verdict = bank_verdict(f, n);
+    bank_answer(verdict, bank_bytes(f, n, verdict))
 }

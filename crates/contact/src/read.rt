@@ -16,7 +16,8 @@ ghost use Prim.Native.Nat.{_≤_};
 ghost use lib.ListN.{length};
 ghost use Rattle.contact.specs.Contact.{infoOf, contactOf, blankContact, contactAnswer, contactRule};
 
-fn info_of(s: &[u8]) -> ContactInfo
+// What a good record's bytes say but for its name.
+pub fn info_of(s: &[u8]) -> ContactInfo
     requires { ⌜ 39 ≤ length (now s) ⌝ }
     ensures { λ r. ⌜ r ≡ infoOf (now (s .entry)) ⌝ }
 {

@@ -4,6 +4,8 @@ pub mod header; // header.rt: the judge of the header
 pub mod places; // places.rt: counts, and where the parts of a file stand
 mod whole; // whole.rt: whether all entries of a bank are good
 
+// Laid out as in C, for include/codeplug.h.
+#[repr(C)]
 pub struct Counts {
     pub contacts: u16,
     pub channels: u16,

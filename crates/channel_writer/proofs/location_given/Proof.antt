@@ -9,7 +9,7 @@ returns : tie.Need-returns
 unfolding locationGiven
 returns c =
     let e = c .before .before .before .before .before in
-    let f = e .before .before .before .before .struct-told .given .0 .1 in
+    let f = e .before .before .before .before .struct-told .given .1 .1 .1 .0 .1 in
     rw (
       c .first2 .ensures,
       c .before .first .ensures,

@@ -14,8 +14,8 @@ unfolding locationBytes littleBytes
 returns c =
     let e = c .before .before .before .before .before .before .before .before .before .before in
     let f = e .before .before .before .before .before .before .before .before .before .before in
-    let l = f .before .before .struct-told .given .0 .1 in
-    let m = e .before .before .struct-told2 .given .1 .1 .0 .1 in
+    let l = f .before .before .struct-told .given .1 .1 .1 .0 .1 in
+    let m = e .before .before .struct-told2 .given .1 .1 .1 .1 .0 .1 in
     let r1 = run-start _ _ 77 _ (long-byte _) (f .put-byte .ensures) (omega (arith, f .before .before .before .before .before .pre)) in
     let r2 = run-then r1 _ _ (long-little 2 _) (e .before .before .before .before .before .before .put-le16 .ensures) in
     let r3 = run-then r2 _ _ (long-byte _) (e .put-byte2 .ensures) in

@@ -1,9 +1,10 @@
 -- Past the count 33; below it the offset, then the head where it leads.
-use mathlib.Core.Path.{sym}
+use mathlib.Core.Path.{_≡_, refl, sym, _∙_}
+use Rattle.fields.specs.declared.rule.Verdict.{Verdict}
 use Prim.Native.Nat.{_≤_, _<_}
 use Rattle.layout.specs.Places.{bankCount}
 use Rattle.codeplug.specs.Once.{tablePlace, bankOnceRule}
-use Rattle.codeplug.proofs.Laws.{place-below, place-past}
+use Rattle.codeplug.proofs.Laws.{place-below, place-past, never, bank-whole, once-good}
 use native.Mathlib.Omega.{arith}
 use borrow.Author.Needs.{needs}
 use Rattle.codeplug.proofs.once.bank_verdict.Statement.{statement}
@@ -14,7 +15,7 @@ unfolding bankOnceRule
 returns c =
     let a = c .before .before .before .args in
     let h : bankCount (a .f .now) ≤ a .n = omega arith in
-    sym (place-past (a .n) (bankCount (a .f .now)) _ h)
+    (sym (place-past (a .n) (bankCount (a .f .now)) _ h), λ g. never refl g)
 
 returns-2 : tie.Need-returns-2
 unfolding bankOnceRule tablePlace
@@ -22,6 +23,7 @@ returns-2 c =
     let e = c .before .before .before .before in
     let a = e .before .before .before .before .args in
     let h : a .n < bankCount (a .f .now) = omega arith in
+    let is : _≡_ {A = Verdict} (c .first .result) (bankOnceRule (a .f .now) (a .n)) =
     rw (
       place-below (a .n) (bankCount (a .f .now)) _ h,
       c .first .ensures,
@@ -30,6 +32,8 @@ returns-2 c =
       c .before .before .before .offset-at .ensures,
       e .offset-place .ensures .0,
     )
+    in
+    (is, λ g. (omega arith, bank-whole (a .f .now) (tablePlace (a .f .now) (a .n)) (once-good (a .f .now) (a .n) (sym is ∙ g) .head)))
 
 pub bank-verdict-spec : {M : Type 1} → statement M
 bank-verdict-spec =

@@ -1,66 +1,21 @@
--- Beside a refusal nothing is read; a good place comes with all 39 bytes.
-use mathlib.Core.Path.{sym, _∙_}
-use Rattle.fields.specs.Bytes.{part}
-use Rattle.layout.specs.Places.{contactPlace}
-use Rattle.codeplug.specs.Read.{contactRead}
-use Rattle.codeplug.proofs.Laws.{place-good, placed-contact, never, contact-same}
-use native.Mathlib.Omega.{arith}
+-- The answer beside the verdict, of the bytes where it is good.
+use mathlib.Core.Path.{_∙_}
+use Rattle.codeplug.proofs.Laws.{contact-read}
 use borrow.Author.Needs.{needs}
 use Rattle.codeplug.proofs.read.contact.Statement.{statement}
 use Rattle.codeplug.proofs.read.contact.Tie as tie
 
-enum-told : tie.Need-enum-told
-enum-told c = search needs
+contact-bytes-requires : tie.Need-contact-bytes-requires
+contact-bytes-requires c κs = λ g. c .contact-verdict .ensures .1 g
 
 answer-requires : tie.Need-answer-requires
-answer-requires c κs = λ g. never (c .enum-told .given .1) g
+answer-requires c κs = λ g. c .contact-bytes .ensures g .1
 
 returns : tie.Need-returns
-unfolding contactRead
 returns c =
-    let e = c .before .before .before in
-    let a = e .before .before .before .args in
-    let f = a .f .now in
-    c .answer .ensures
-    ∙ contact-same _ f (part f (contactPlace (a .n)) 39) (λ g. never (c .before .enum-told .given .1) g)
-    ∙ rw (e .place .ensures, e .before .contact-count .ensures .0)
-
-contact-place-requires : tie.Need-contact-place-requires
-contact-place-requires c κs =
-    let e = c .before .before in
-    let a = e .before .before .before .args in
-    omega (arith, place-good (a .f .now) (a .n) _ (sym (e .place .ensures) ∙ c .enum-told2 .given .1) .below)
-
-answer-requires-2 : tie.Need-answer-requires-2
-answer-requires-2 c κs =
-    let e = c .before .before .before .before in
-    let a = e .before .before .before .args in
-    λ g. rw (c .lend .ensures, c .before .contact-place .ensures .0)
-    (placed-contact (a .f .now) (a .n) _ (sym (e .place .ensures) ∙ g) (e .before .contact-count .ensures .0))
-
-returns-2 : tie.Need-returns-2
-unfolding contactRead
-returns-2 c =
-    let e = c .before .before in
-    rw (
-      c .answer2 .ensures,
-      c .before .lend .ensures,
-      e .contact-place .ensures .0,
-      e .before .before .before .place .ensures,
-      e .before .before .before .before .contact-count .ensures .0,
-    )
+    let v = c .before .before .contact-verdict .ensures in
+    c .answer .ensures ∙ contact-read _ _ _ _ (v .0) (λ g. c .before .contact-bytes .ensures g .0)
 
 pub contact-spec : {M : Type 1} → statement M
 contact-spec =
-    tie.close
-    (tie.spec
-    (search needs)
-    (search needs)
-    enum-told
-    answer-requires
-    returns
-    (search needs)
-    contact-place-requires
-    (search needs)
-    answer-requires-2
-    returns-2)
+    tie.close (tie.spec (search needs) contact-bytes-requires answer-requires returns)

@@ -1,0 +1,21 @@
+-- What is read, from the verdict and the bytes beside it.
+use Rattle.codeplug.proofs.Laws.{bank-read}
+use borrow.Author.Needs.{needs}
+use Rattle.capi.proofs.read.codeplug_bank.Statement.{statement}
+use Rattle.capi.proofs.read.codeplug_bank.Tie as tie
+
+bank-bytes-requires : tie.Need-bank-bytes-requires
+bank-bytes-requires c κs = λ g. c .before .bank-verdict .ensures .1 g .0
+
+bank-out-requires : tie.Need-bank-out-requires
+bank-out-requires c κs = λ g. c .bank-bytes .ensures g .1
+
+returns : tie.Need-returns
+returns c =
+    let b = c .before .before .before in
+    let v = b .before .before .bank-verdict .ensures in
+    let a = b .before .before .before .before .before .args in
+    rw (← bank-read (a .file .now) (a .n) _ _ (v .0) (v .1) (λ g. b .bank-bytes .ensures g .0)) (c .before .before .bank-out .ensures)
+
+pub codeplug-bank-spec : {M : Type 1} → statement M
+codeplug-bank-spec = tie.close (tie.spec (search needs) bank-bytes-requires bank-out-requires (search needs) returns)

@@ -1,0 +1,21 @@
+-- What is read, from the verdict and the bytes beside it.
+use Rattle.codeplug.proofs.Laws.{contact-read}
+use borrow.Author.Needs.{needs}
+use Rattle.capi.proofs.read.codeplug_contact.Statement.{statement}
+use Rattle.capi.proofs.read.codeplug_contact.Tie as tie
+
+contact-bytes-requires : tie.Need-contact-bytes-requires
+contact-bytes-requires c κs = λ g. c .before .contact-verdict .ensures .1 g
+
+contact-out-requires : tie.Need-contact-out-requires
+contact-out-requires c κs = λ g. c .contact-bytes .ensures g .1
+
+returns : tie.Need-returns
+returns c =
+    let b = c .before .before .before in
+    let v = b .before .before .contact-verdict .ensures in
+    let a = b .before .before .before .before .before .args in
+    rw (← contact-read (a .file .now) (a .n) _ _ (v .0) (λ g. b .contact-bytes .ensures g .0)) (c .before .before .contact-out .ensures)
+
+pub codeplug-contact-spec : {M : Type 1} → statement M
+codeplug-contact-spec = tie.close (tie.spec (search needs) contact-bytes-requires contact-out-requires (search needs) returns)

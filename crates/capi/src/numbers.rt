@@ -1,0 +1,44 @@
+// Addresses and tones.
+use capi_convert::numbers::DecodeAnswer;
+use capi_convert::numbers::EncodeAnswer;
+use capi_convert::numbers::decode_answer;
+use capi_convert::numbers::encode_answer;
+use capi_convert::numbers::index_number;
+use capi_convert::numbers::tenths_of;
+ghost use mathlib.Core.Path.{_≡_};
+ghost use lib.ListN.{length};
+ghost use Rattle.m17.specs.Address.{encoding, decoding, decodedInto};
+ghost use Rattle.tones.specs.Tone.{frequencyOf, indexOf};
+ghost use Rattle.capi_convert.specs.Numbers.{encodeAnswer, decodeAnswer, tenthsOf, indexNumber};
+
+// A callsign's address number; 0 beside a refusal.
+#[no_mangle]
+pub extern "C" fn codeplug_encode_callsign(text: &[u8]) -> EncodeAnswer
+    ensures { λ r. ⌜ r ≡ encodeAnswer (encoding (now (text .entry))) ⌝ }
+{
+    encode_answer(m17::encode(text))
+}
+
+// An address number's text, into the first nine bytes of the buffer, and its length; broadcast has none.
+#[no_mangle]
+pub extern "C" fn codeplug_decode_address(address: u64, out: &mut [u8]) -> DecodeAnswer
+    ensures { λ r. ⌜ (r ≡ decodeAnswer (decoding (length (now (out .entry))) address)) × (now (out .exit) ≡ decodedInto (now (out .entry)) address) ⌝ }
+{
+    decode_answer(m17::decode(address, out))
+}
+
+// The frequency of a tone, in tenths of a hertz; 0 past the table.
+#[no_mangle]
+pub extern "C" fn codeplug_tone_frequency(index: u8) -> u16
+    ensures { λ r. ⌜ r ≡ tenthsOf (frequencyOf index) ⌝ }
+{
+    tenths_of(tones::frequency_of(index))
+}
+
+// The index of a frequency; 255 where the table has it not.
+#[no_mangle]
+pub extern "C" fn codeplug_tone_index(tenths: u16) -> u8
+    ensures { λ r. ⌜ r ≡ indexNumber (indexOf tenths) ⌝ }
+{
+    index_number(tones::index_of(tenths))
+}

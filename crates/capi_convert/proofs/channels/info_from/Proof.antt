@@ -1,0 +1,30 @@
+-- The mode chooses the info.
+use Rattle.capi_convert.specs.Channels.{infoFrom}
+use borrow.Author.Tests.{eq-eqb, ne-eqb}
+use borrow.Author.Needs.{needs}
+use Rattle.capi_convert.proofs.channels.info_from.Statement.{statement}
+use Rattle.capi_convert.proofs.channels.info_from.Tie as tie
+
+returns : tie.Need-returns
+unfolding infoFrom
+returns c = rw (eq-eqb _ 0 (c .before .before .if1 .taken), c .tone-from2 .ensures, c .before .tone-from .ensures)
+
+returns-2 : tie.Need-returns-2
+unfolding infoFrom
+returns-2 c = rw (ne-eqb _ 0 (c .before .before .before .if1 .left), eq-eqb _ 1 (c .before .if2 .taken), c .contact-index-of .ensures)
+
+returns-3 : tie.Need-returns-3
+unfolding infoFrom
+returns-3 c = rw (ne-eqb _ 0 (c .before .before .before .if1 .left), ne-eqb _ 1 (c .before .if2 .left), c .contact-index-of2 .ensures)
+
+pub info-from-spec : {M : Type 1} → statement M
+info-from-spec =
+    tie.close
+    (tie.spec
+    (search needs)
+    (search needs)
+    returns
+    (search needs)
+    returns-2
+    (search needs)
+    returns-3)

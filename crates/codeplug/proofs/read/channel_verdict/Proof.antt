@@ -1,0 +1,21 @@
+-- The place's rule at the count; a good place comes with all 90 bytes.
+use mathlib.Core.Path.{sym, _∙_}
+use Rattle.layout.specs.Places.{channelCount}
+use Rattle.codeplug.proofs.Laws.{place-good, placed-channel}
+use native.Mathlib.Omega.{arith}
+use borrow.Author.Needs.{needs}
+use Rattle.codeplug.proofs.read.channel_verdict.Statement.{statement}
+use Rattle.codeplug.proofs.read.channel_verdict.Tie as tie
+
+returns : tie.Need-returns
+returns c =
+    let a = c .before .before .before .args in
+    let n = c .before .channel-count .ensures in (
+      rw (c .place .ensures, n .0),
+      λ g.
+          let good = sym (c .place .ensures) ∙ g in
+          (omega (arith, place-good (a .f .now) (a .n) _ good .below), placed-channel (a .f .now) (a .n) _ good (n .0)),
+    )
+
+pub channel-verdict-spec : {M : Type 1} → statement M
+channel-verdict-spec = tie.close (tie.spec (search needs) (search needs) returns)
