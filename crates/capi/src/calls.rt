@@ -1,9 +1,9 @@
 // The calls on two lent buffers, a codeplug's and its history's.
 use capi_convert::numbers::CallAnswer;
 use capi_convert::numbers::call_answer;
-ghost use Rattle.journal.specs.Machine.{editStep, undoStep};
+ghost use Rattle.journal.specs.Machine.{undoStep};
 ghost use Rattle.edits.specs.Setting.{editing};
-ghost use Rattle.preconditions.specs.Calls.{lent, asked};
+ghost use Rattle.preconditions.specs.Calls.{lent};
 ghost use Rattle.capi.specs.Calls.{Called, Edited};
 
 // Takes the last edit back, in both buffers, or refuses and leaves them as lent.

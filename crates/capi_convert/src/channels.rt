@@ -15,6 +15,7 @@ use channel_reader::m17_of;
 use fields::numbers::byte_at;
 use fields::rule::Verdict;
 use format::refusals::SHORT_BUFFER;
+use format::sizes::TEXTS_SIZE;
 use tones::Tone;
 use tones::index_in;
 ghost use mathlib.Core.Path.{_≡_};
@@ -164,7 +165,7 @@ pub fn channel_out(texts: &mut [u8], v: Verdict, s: &[u8]) -> ChannelAnswer
     requires { ⌜ (v ≡ Verdict.Good → length (now s) ≡ 90) ⌝ }
     ensures { λ r. ⌜ ChannelOut (channelAnswer v (now (s .entry))) (now (texts .entry)) r (now (texts .exit)) ⌝ }
 {
-    if texts.len() < 64 {
+    if texts.len() < TEXTS_SIZE {
         return channel_refused(SHORT_BUFFER, 0);
     }
     match v {

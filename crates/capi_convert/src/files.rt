@@ -3,6 +3,7 @@ use crate::texts::put_text;
 use fields::numbers::le64;
 use fields::rule::Verdict;
 use format::refusals::SHORT_BUFFER;
+use format::sizes::TEXTS_SIZE;
 use layout::Counts;
 use layout::places::counts_of;
 use validation::Judged;
@@ -70,7 +71,7 @@ pub fn header_out(texts: &mut [u8], v: Verdict, f: &[u8]) -> HeaderAnswer
     requires { ⌜ (v ≡ Verdict.Good → 88 ≤ length (now f)) ⌝ }
     ensures { λ r. ⌜ HeaderOut (headerAnswer v (now (f .entry))) (now (texts .entry)) r (now (texts .exit)) ⌝ }
 {
-    if texts.len() < 64 {
+    if texts.len() < TEXTS_SIZE {
         return header_refused(SHORT_BUFFER, 0);
     }
     match v {

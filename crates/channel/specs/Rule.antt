@@ -13,7 +13,6 @@ use Rattle.bits.specs.Packed.{choiceOk, halvesOf, signedOf}
 use Rattle.tones.specs.Tone.{toneOk}
 use Rattle.channel.specs.declared.ContactIndex.{ContactIndex}
 use Rattle.channel.specs.declared.ContactIndex.the-variants as contact
-use Rattle.channel.specs.declared.Info.the-variants.{M17}
 use Rattle.channel.specs.Values.{modeOk, scanListOk, groupListOk, latitudeOk, fractionOk, latitudeFractionOk, slotOk, operationOk, encryptionOk, dmrContactAt, m17ContactAt, contactIndexOf}
 
 -- ---- the rule: fields in file order

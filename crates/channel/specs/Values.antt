@@ -1,9 +1,8 @@
 -- Single values of a channel and their rules (document 01, "The file").
-use Prim.Native.Nat.{ℕ, _+_}
+use Prim.Native.Nat.{ℕ}
 use mathlib.Core.Bool.{Bool, false, _&&_, _||_, not, cond}
 use lib.Dec.{leb, eqb}
 use lib.IntN.{ℤ, pos, negsuc}
-use Rattle.fields.specs.declared.rule.Verdict.the-variants.{Good}
 use Rattle.bits.specs.Packed.{choiceOf}
 use Rattle.bits.specs.declared.Choice.{Choice}
 use Rattle.channel.specs.declared.Traits.{Traits}
@@ -11,7 +10,6 @@ use Rattle.channel.specs.declared.Info.{Info}
 use Rattle.channel.specs.declared.Info.the-variants.{Fm, Dmr, M17}
 use Rattle.channel.specs.declared.ContactIndex.{ContactIndex}
 use Rattle.channel.specs.declared.ContactIndex.the-variants as contact
-use Rattle.channel.specs.declared.Info.the-variants.{M17}
 
 -- ---- values and their rules: `..Ok` speaks of what a file holds, `..Good` and `..Given` of a value that a writer is given
 

@@ -3,7 +3,6 @@ use bits::halves_of;
 use bits::signed_of;
 use channel::Channel;
 use channel::Common;
-use channel::ContactIndex;
 use channel::DmrInfo;
 use channel::FmInfo;
 use channel::Info;

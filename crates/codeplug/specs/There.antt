@@ -1,4 +1,4 @@
--- What a good verdict on record n comes with: a place that can be counted, and all of the record's bytes.
+-- What a good verdict on record n comes with: a place below 65,536, and all of the record's bytes. No promise to a caller rests on these.
 use mathlib.Core.Path.{_≡_}
 use Prim.Native.Nat.{ℕ, _≤_, _<_}
 use mathlib.Core.List.{List}

@@ -13,8 +13,7 @@ use layout::places::channel_place;
 use layout::places::lend;
 use plug::Kind;
 ghost use mathlib.Core.Path.{_≡_};
-ghost use Prim.Native.Nat.{_+_, _*_, _<_, _≤_, _^_};
-ghost use lib.ListN.{length};
+ghost use Prim.Native.Nat.{_+_, _<_, _^_};
 ghost use Rattle.plug.specs.Plug.{plugOf, indexesAt};
 ghost use Rattle.plug.specs.EditRules.{isIndex, someNames, holdsChannel, someHolds, inUse};
 

@@ -1,4 +1,5 @@
 // The places and counts of an edit (33, 34).
+use format::sizes::COUNT_MAX;
 use layout::places::bank_count;
 use layout::places::channel_count;
 use layout::places::contact_count;
@@ -36,10 +37,10 @@ pub fn count_ok(f: &[u8], k: Kind, i: usize) -> bool
     ensures { λ r. ⌜ r ≡ countOk k i (plugOf (now (f .entry))) ⌝ }
 {
     match k {
-        Kind::InsertContact => contact_count(f) != 65535,
-        Kind::InsertChannel => channel_count(f) != 65535,
-        Kind::InsertBank => bank_count(f) != 65535,
-        Kind::InsertEntry => entries_in(f, i) != 65535,
+        Kind::InsertContact => contact_count(f) != COUNT_MAX,
+        Kind::InsertChannel => channel_count(f) != COUNT_MAX,
+        Kind::InsertBank => bank_count(f) != COUNT_MAX,
+        Kind::InsertEntry => entries_in(f, i) != COUNT_MAX,
         _ => true,
     }
 }

@@ -76,6 +76,7 @@ fn keeps_mode(f: &[u8], i: usize, mode: u8, p: usize) -> Verdict
     let s = lend(f, p, CHANNEL_SIZE);
     let m = byte_at(s, 0);
     if is_index(named_contact(s), i) {
+        // the index stands at 87 for DMR, mode 1, and at 88 for M17, mode 2
         return unless(m == mode, CONTACT_INDEX, p + (86 + m as usize));
     }
     Verdict::Good

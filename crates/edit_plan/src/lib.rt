@@ -1,4 +1,4 @@
-// The plan of an edit of an accepted file: which bytes it changes, and how.
+// The plan of an edit: which bytes it changes, and how.
 use format::sizes::BANK_HEAD_SIZE;
 use format::sizes::CHANNEL_SIZE;
 use format::sizes::CONTACT_SIZE;
@@ -20,14 +20,9 @@ use plug::places::bank_place;
 use renumber::shift::Growth;
 use renumber::shift::Shift;
 ghost use mathlib.Core.Path.{_≡_};
-ghost use mathlib.Core.Bool.{true};
 ghost use Prim.Native.Nat.{_≤_};
-ghost use lib.ListN.{length};
 ghost use Rattle.plug.specs.declared.Kind.the-variants as kind;
-ghost use Rattle.plug.specs.Plug.{plugOf};
-ghost use Rattle.plug.specs.EditRules.{placeOk, countOk};
 ghost use Rattle.layout.specs.Places.{bankCount};
-ghost use Rattle.layout.specs.Banks.{bankPlace};
 ghost use Rattle.edit_plan.specs.Planned.{Ready, Makes, tableFrom};
 
 // Offsets of bank i and those behind it.

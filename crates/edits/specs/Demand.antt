@@ -1,6 +1,6 @@
 -- Demand 3 for codeplugs; proofs/Promised.antt proves it (`editor-promise`). That the code is the machine it speaks of is what the contracts
--- of the calls say: `edit` equals `editStep editing`, `undo` equals `undoStep editing` (editor, src/editing.rt and src/undo.rt). What an edit
--- does and refuses is the same definition for the machine and the book, as document 01 asks: Edits.antt of plug, Setting.antt here.
+-- of the calls say: `edit` equals `editStep editing`, `undo` equals `undoStep editing` (editor and undo, src/lib.rt). What an edit
+-- does and refuses is the same definition for the machine and the book, as document 01 asks: Edits.antt and EditRules.antt of plug, Setting.antt here.
 use Rattle.fields.specs.Bytes.{AllBytes}
 use Rattle.journal.specs.Promise.{EveryList}
 use Rattle.edits.specs.Setting.{Asked, editing}

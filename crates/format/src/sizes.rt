@@ -5,6 +5,8 @@ pub const FILE_MAX: usize = 1_048_576;
 pub const HEADER_SIZE: usize = 88;
 // a text field
 pub const TEXT_SIZE: usize = 32;
+// two text fields, one behind the other
+pub const TEXTS_SIZE: usize = 64;
 // author, description and timestamp, as edit 12 carries them
 pub const TITLE_SIZE: usize = 72;
 // a contact's record

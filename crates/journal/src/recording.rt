@@ -10,7 +10,6 @@ ghost use mathlib.Core.Path.{_≡_};
 ghost use Prim.Native.Nat.{_+_, _-_, _≤_};
 ghost use lib.ListN.{length};
 ghost use Rattle.fields.specs.Bytes.{over};
-ghost use Rattle.varint.specs.Number.{numberBytes};
 ghost use Rattle.journal.specs.Entry.{entryBytes, historyBytes};
 ghost use Rattle.journal.specs.Machine.{holding};
 ghost use Rattle.journal.specs.Span.{Sound, spanSize, entryFrom, Reserved, Recordable, recordedOver, runHeld};

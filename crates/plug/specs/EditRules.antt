@@ -9,7 +9,6 @@ use Rattle.channel.specs.declared.ContactIndex.{ContactIndex}
 use Rattle.channel.specs.declared.ContactIndex.the-variants.{Nobody, Index}
 use Rattle.plug.specs.declared.Kind.{Kind}
 use Rattle.plug.specs.declared.Kind.the-variants.{InsertContact, RemoveContact, ReplaceContact, InsertChannel, RemoveChannel, ReplaceChannel, InsertBank, RemoveBank, RenameBank, InsertEntry, RemoveEntry, SetHeader}
-use Rattle.plug.specs.declared.KindRead.the-variants as read
 use Rattle.plug.specs.Plug.{Bank, Plug}
 
 -- how many entries bank i has

@@ -1,5 +1,5 @@
--- A file's layout, as far as an edit's places and plan need it: every accepted file has it (edits, proofs/Accepted.antt). What its records
--- hold is not asked.
+-- A file's layout, as far as an edit's places and plan need it: every accepted file has it (edits, proofs/Accepted.antt). What its contacts and
+-- channels hold is not asked. No promise to a caller rests on it.
 use Prim.Native.Nat.{ℕ, _^_, _≤_, _<_}
 use mathlib.Core.Path.{_≡_}
 use mathlib.Core.List.{List}
