@@ -24,6 +24,9 @@ pub fn generator(kind: &str) -> Option<Generator> {
         "channels" => Some(channel_case),
         "addresses" => Some(address_case),
         "mixed" => Some(mixed_case),
+        "read" => Some(reading_case),
+        "channels-read" => Some(channel_reading_case),
+        "written" => Some(writing_case),
         "calls" => Some(calls::case),
         _ => None,
     }
@@ -42,6 +45,33 @@ fn mixed_case(rng: &mut Rng) -> (Vec<u8>, String) {
         return mixed_case(rng);
     }
     ([&[kind], &case[..]].concat(), line)
+}
+
+/// The next mixed case of a file, or of reading a contact or a text.
+fn reading_case(rng: &mut Rng) -> (Vec<u8>, String) {
+    let (case, line) = mixed_case(rng);
+    if case[0] == 0 || (case[0] != 2 && case[1] == READ) {
+        return (case, line);
+    }
+    reading_case(rng)
+}
+
+/// The next mixed case of reading a channel.
+fn channel_reading_case(rng: &mut Rng) -> (Vec<u8>, String) {
+    let (case, line) = mixed_case(rng);
+    if case[0] == 2 && case[1] == READ {
+        return (case, line);
+    }
+    channel_reading_case(rng)
+}
+
+/// The next mixed case of writing.
+fn writing_case(rng: &mut Rng) -> (Vec<u8>, String) {
+    let (case, line) = mixed_case(rng);
+    if case[0] != 0 && case[1] == WRITE {
+        return (case, line);
+    }
+    writing_case(rng)
 }
 
 // The first byte of a case, in the corpora with two sorts of cases.

@@ -12,7 +12,7 @@ use obcf_second::sample::Rng;
 use obcf_second::{judge, Reason, Refusal};
 
 const USAGE: &str = "usage: second judge < FILE
-       second corpus files|contacts|channels|addresses|mixed|calls SEED COUNT OUT.bin OUT.txt";
+       second corpus files|contacts|channels|addresses|mixed|read|channels-read|written|calls SEED COUNT OUT.bin OUT.txt";
 
 /// The program reads at most this many bytes (paper: Examples).
 const MOST_INPUT: u64 = 65_536;

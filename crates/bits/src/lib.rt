@@ -9,7 +9,8 @@ pub struct Choice {
     pub flag: bool,
 }
 
-// The two halves of a byte.
+// The two halves of a byte. Laid out as in C, for include/codeplug.h.
+#[repr(C)]
 pub struct Halves {
     pub high: u8,
     pub low: u8,

@@ -1,10 +1,10 @@
 // The calls of a list, each on what the last one left.
 use crate::print;
-use cases::case;
 use editor::edit;
 use fields::numbers::byte_at;
 use fields::numbers::le64;
 use journal::answer::Answer;
+use layout::places::lend;
 use undo::undo;
 ghost use Prim.Native.Nat.{_<_, _^_};
 ghost use lib.ListN.{length};
@@ -26,16 +26,8 @@ fn call(
     let kind = le64(case, k + 1) as usize;
     let first = le64(case, k + 9) as usize;
     let second = le64(case, k + 17) as usize;
-    edit(
-        room,
-        len,
-        history,
-        used,
-        kind,
-        first,
-        second,
-        case::string(case, k + 25),
-    )
+    let record = lend(case, k + 26, byte_at(case, k + 25) as usize);
+    edit(room, len, history, used, kind, first, second, record)
 }
 
 // The place past the call at k.
@@ -46,13 +38,28 @@ fn past_call(case: &[u8], k: usize) -> usize
     if byte_at(case, k) == 0 {
         return k + 1;
     }
-    case::past_string(case, k + 25)
+    k + 26 + byte_at(case, k + 25) as usize
 }
 
-// Makes the calls from `start` on to the end of the case.
+// The codeplug's length after a call: as before where it was refused.
+fn length_after(a: Answer, len: usize) -> usize {
+    match a {
+        Answer::Done(n, _, _) => n,
+        Answer::Refused(_, _) => len,
+    }
+}
+
+// The history's.
+fn used_after(a: Answer, used: usize) -> usize {
+    match a {
+        Answer::Done(_, n, _) => n,
+        Answer::Refused(_, _) => used,
+    }
+}
+
+// Makes the calls that a list's bytes hold.
 pub(crate) fn make(
     case: &[u8],
-    start: usize,
     room: &mut [u8],
     room_length: usize,
     history: &mut [u8],
@@ -60,16 +67,14 @@ pub(crate) fn make(
 )
     requires { ⌜ length (now case) < 2 ^ 32 ⌝ }
 {
-    let mut k = start;
+    let mut k = 0;
     let mut len = room_length;
     let mut used = history_length;
     while k < case.len() {
         let answer = call(case, k, room, len, history, used);
         print::line(answer, room, history);
-        if let Answer::Done(l, u, _) = answer {
-            len = l;
-            used = u;
-        }
+        len = length_after(answer, len);
+        used = used_after(answer, used);
         k = past_call(case, k);
     }
 }

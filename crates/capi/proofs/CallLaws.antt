@@ -5,9 +5,9 @@ use mathlib.Core.List.{List}
 use Rattle.journal.specs.Machine.{Outcome}
 use Rattle.journal.specs.declared.answer.Answer.{Answer}
 use Rattle.preconditions.specs.Calls.{left}
-use Rattle.capi_convert.specs.Numbers.{callAnswer}
+use Rattle.capi_numbers.specs.Numbers.{callAnswer}
 use Rattle.capi.specs.Calls.{Called}
-use Rattle.capi_convert.specs.declared.numbers.CallAnswer.{CallAnswer}
+use Rattle.capi_numbers.specs.declared.CallAnswer.{CallAnswer}
 
 pub called : (a : Answer) (room history : List ℕ) (o : Outcome) (r : CallAnswer) → left a room history ≡ o → r ≡ callAnswer a
     → Called o r room history

@@ -1,5 +1,5 @@
 -- Writing a channel from its numbers: a good mode is judged as the library judges, a foreign one answers behind the buffer's length.
-use mathlib.Core.Path.{_≡_, refl, sym, _∙_}
+use mathlib.Core.Path.{_≡_, refl, sym}
 use Prim.Native.Nat.{ℕ, _≤_, _<_}
 use mathlib.Core.Bool.{Bool, true, false}
 use mathlib.Core.List.{List}
@@ -13,8 +13,10 @@ use Rattle.channel.specs.Values.{modeOk}
 use Rattle.channel_writer.specs.Writing.{channelGiven, channelWritten}
 use Rattle.channel.specs.declared.Common.{Common}
 use Rattle.channel.specs.declared.Info.{Info}
+use Rattle.capi_numbers.specs.Numbers.{refusalOf}
 use Rattle.capi_convert.specs.Channels.{infoFrom}
-use Rattle.capi.specs.Write.{channelAsked, channelLeft, ChannelAsked}
+use Rattle.capi.specs.Write.{channelAsked, channelLeft, ChannelAnswered}
+use Rattle.capi_numbers.specs.declared.Refusal.{Refusal}
 use Rattle.capi_convert.specs.declared.channels.InfoFields.{InfoFields}
 
 mode-known : (m : ℕ) → m ≤ 2 → modeOk m ≡ true
@@ -48,18 +50,18 @@ module _ (out name description : List ℕ) (common : Common) (info : InfoFields)
   asked-foreign h = rw (mode-foreign (info .mode) h)
 
   -- the library's answer is the one asked for
-  pub channel-goes : (i : Info) (r : Verdict) (left : List ℕ) → info .mode ≤ 2 → i ≡ infoFrom info
+  pub channel-goes : (i : Info) (r : Verdict) (q : Refusal) (left : List ℕ) → info .mode ≤ 2 → i ≡ infoFrom info
       → (r ≡ channelGiven (length out) name description common i) × (left ≡ channelWritten out name description common i)
-      → ChannelAsked out name description common info r left
+      → q ≡ refusalOf r → ChannelAnswered out name description common info q left
   unfolding channelWritten channelLeft
-  channel-goes i r left h ie w =
+  channel-goes i r q left h ie w e =
       let known = asked-known h in
-      (rw (known, ← ie) (w .0), rw (known, ← ie) (w .1))
+      (rw (e, w .0, known, ie), rw (known, ← ie) (w .1))
 
   -- the answer to a foreign mode, and the buffer as lent
-  pub channel-stops : (r : Verdict) → 2 < info .mode → r ≡ unless (leb 90 (length out)) 25 0 then Refused 6 0
-      → ChannelAsked out name description common info r out
+  pub channel-stops : (r : Verdict) (q : Refusal) → 2 < info .mode → r ≡ unless (leb 90 (length out)) 25 0 then Refused 6 0
+      → q ≡ refusalOf r → ChannelAnswered out name description common info q out
   unfolding channelLeft
-  channel-stops r h e =
+  channel-stops r q h e f =
       let foreign = asked-foreign h in
-      (e ∙ sym foreign, rw foreign (sym (stopped (unless (leb 90 (length out)) 25 0) 6 0 out _)))
+      (rw (f, e, foreign), rw foreign (sym (stopped (unless (leb 90 (length out)) 25 0) 6 0 out _)))

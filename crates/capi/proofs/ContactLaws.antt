@@ -1,5 +1,5 @@
 -- Writing a contact from its numbers: a good mode is judged as the library judges, a foreign one answers behind the name.
-use mathlib.Core.Path.{_≡_, refl, sym, _∙_}
+use mathlib.Core.Path.{_≡_, refl, sym}
 use Prim.Native.Nat.{ℕ}
 use mathlib.Core.Bool.{Bool, true, false}
 use mathlib.Core.List.{List}
@@ -12,8 +12,10 @@ use Rattle.fields.specs.declared.rule.Verdict.{Verdict}
 use Rattle.fields.specs.declared.rule.Verdict.the-variants.{Good, Refused}
 use Rattle.contact.specs.Contact.{modeOk, contactGiven, contactWritten}
 use Rattle.contact.specs.declared.ContactInfo.{ContactInfo}
+use Rattle.capi_numbers.specs.Numbers.{refusalOf}
 use Rattle.capi_convert.specs.Contacts.{infoFrom}
-use Rattle.capi.specs.Write.{contactAsked, contactLeft, ContactAsked}
+use Rattle.capi.specs.Write.{contactAsked, contactLeft, ContactAnswered}
+use Rattle.capi_numbers.specs.declared.Refusal.{Refusal}
 use Rattle.capi_convert.specs.declared.contacts.ContactFields.{ContactFields}
 
 pub dmr-known : (m : ℕ) → m ≡ 1 → modeOk m ≡ true
@@ -54,19 +56,19 @@ stopped Good (Refused m q) n p out s = refl
 stopped (Refused m q) b n p out s = refl
 
 -- the library's answer is the one asked for
-pub contact-goes : (out name : List ℕ) (v : ContactFields) (info : ContactInfo) (r : Verdict) (left : List ℕ) → modeOk (v .mode) ≡ true
+pub contact-goes : (out name : List ℕ) (v : ContactFields) (info : ContactInfo) (r : Verdict) (q : Refusal) (left : List ℕ) → modeOk (v .mode) ≡ true
     → info ≡ infoFrom v → (r ≡ contactGiven (length out) name info) × (left ≡ contactWritten out name info)
-    → ContactAsked out name v r left
+    → q ≡ refusalOf r → ContactAnswered out name v q left
 unfolding contactWritten contactLeft
-contact-goes out name v info r left ok means w =
+contact-goes out name v info r q left ok means w e =
     let known = asked-known (length out) name v ok in
-    (rw (known, ← means) (w .0), rw (known, ← means) (w .1))
+    (rw (e, w .0, known, means), rw (known, ← means) (w .1))
 
 -- the answer to a foreign mode, and the buffer as lent
-pub contact-stops : (out name : List ℕ) (v : ContactFields) (r : Verdict) → modeOk (v .mode) ≡ false
+pub contact-stops : (out name : List ℕ) (v : ContactFields) (r : Verdict) (q : Refusal) → modeOk (v .mode) ≡ false
     → r ≡ unless (leb 39 (length out)) 25 0 then unless (givenOk name) 5 0 then Refused 6 32
-    → ContactAsked out name v r out
+    → q ≡ refusalOf r → ContactAnswered out name v q out
 unfolding contactLeft
-contact-stops out name v r bad e =
+contact-stops out name v r q bad e f =
     let foreign = asked-foreign (length out) name v bad in
-    (e ∙ sym foreign, rw foreign (sym (stopped (unless (leb 39 (length out)) 25 0) (unless (givenOk name) 5 0) 6 32 out _)))
+    (rw (f, e, foreign), rw foreign (sym (stopped (unless (leb 39 (length out)) 25 0) (unless (givenOk name) 5 0) 6 32 out _)))

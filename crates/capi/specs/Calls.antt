@@ -5,8 +5,8 @@ use mathlib.Core.List.{List}
 use Rattle.journal.specs.Machine.{State, Outcome, editStep}
 use Rattle.edits.specs.Setting.{editing}
 use Rattle.preconditions.specs.Calls.{asked}
-use Rattle.capi_convert.specs.Numbers.{callAnswer}
-use Rattle.capi_convert.specs.declared.numbers.CallAnswer.{CallAnswer}
+use Rattle.capi_numbers.specs.Numbers.{callAnswer}
+use Rattle.capi_numbers.specs.declared.CallAnswer.{CallAnswer}
 
 -- a call's answer and both buffers afterwards are those of an outcome
 pub record Called (o : Outcome) (r : CallAnswer) (room history : List ℕ) : Type 0 where

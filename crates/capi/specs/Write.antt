@@ -11,10 +11,10 @@ use Rattle.contact.specs.Contact as contact
 use Rattle.channel.specs.Values as channel
 use Rattle.channel.specs.declared.Common.{Common}
 use Rattle.channel_writer.specs.Writing.{channelGiven, channelBytes}
-use Rattle.capi_convert.specs.Numbers.{refusalOf}
+use Rattle.capi_numbers.specs.Numbers.{refusalOf}
 use Rattle.capi_convert.specs.Contacts as contacts
 use Rattle.capi_convert.specs.Channels as channels
-use Rattle.capi_convert.specs.declared.numbers.Refusal.{Refusal}
+use Rattle.capi_numbers.specs.declared.Refusal.{Refusal}
 use Rattle.capi_convert.specs.declared.contacts.ContactFields.{ContactFields}
 use Rattle.capi_convert.specs.declared.channels.InfoFields.{InfoFields}
 
@@ -31,11 +31,7 @@ contactAsked size name v =
 unfoldable pub contactLeft : List ℕ → List ℕ → ContactFields → List ℕ
 contactLeft out name v = written (contactAsked (length out) name v) out (contact.contactBytes name (contacts.infoFrom v))
 
--- a verdict, and what is left of the buffer
-abbrev pub ContactAsked : List ℕ → List ℕ → ContactFields → Verdict → List ℕ → Type 0
-ContactAsked out name v r left = (r ≡ contactAsked (length out) name v) × (left ≡ contactLeft out name v)
-
--- the same with the verdict as numbers
+-- a refusal, and what is left of the buffer
 abbrev pub ContactAnswered : List ℕ → List ℕ → ContactFields → Refusal → List ℕ → Type 0
 ContactAnswered out name v r left = (r ≡ refusalOf (contactAsked (length out) name v)) × (left ≡ contactLeft out name v)
 
@@ -53,10 +49,6 @@ channelLeft out name description common info =
     (channelAsked (length out) name description common info)
     out
     (channelBytes name description common (channels.infoFrom info))
-
-abbrev pub ChannelAsked : List ℕ → List ℕ → List ℕ → Common → InfoFields → Verdict → List ℕ → Type 0
-ChannelAsked out name description common info r left =
-    (r ≡ channelAsked (length out) name description common info) × (left ≡ channelLeft out name description common info)
 
 abbrev pub ChannelAnswered : List ℕ → List ℕ → List ℕ → Common → InfoFields → Refusal → List ℕ → Type 0
 ChannelAnswered out name description common info r left =

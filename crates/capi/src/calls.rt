@@ -1,6 +1,6 @@
 // The calls on two lent buffers, a codeplug's and its history's.
-use capi_convert::numbers::CallAnswer;
-use capi_convert::numbers::call_answer;
+use capi_numbers::CallAnswer;
+use capi_numbers::call_answer;
 ghost use Rattle.journal.specs.Machine.{undoStep};
 ghost use Rattle.edits.specs.Setting.{editing};
 ghost use Rattle.preconditions.specs.Calls.{lent};

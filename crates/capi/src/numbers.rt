@@ -1,22 +1,22 @@
 // Addresses and tones.
-use capi_convert::numbers::DecodeAnswer;
-use capi_convert::numbers::EncodeAnswer;
-use capi_convert::numbers::decode_answer;
-use capi_convert::numbers::encode_answer;
-use capi_convert::numbers::index_number;
-use capi_convert::numbers::tenths_of;
+use capi_numbers::DecodeAnswer;
+use capi_numbers::EncodeAnswer;
+use capi_numbers::decode_answer;
+use capi_numbers::encode_answer;
+use capi_numbers::index_number;
+use capi_numbers::tenths_of;
 ghost use mathlib.Core.Path.{_≡_};
 ghost use lib.ListN.{length};
 ghost use Rattle.m17.specs.Address.{encoding, decoding, decodedInto};
 ghost use Rattle.tones.specs.Tone.{frequencyOf, indexOf};
-ghost use Rattle.capi_convert.specs.Numbers.{encodeAnswer, decodeAnswer, tenthsOf, indexNumber};
+ghost use Rattle.capi_numbers.specs.Numbers.{encodeAnswer, decodeAnswer, tenthsOf, indexNumber};
 
 // A callsign's address number; 0 beside a refusal.
 #[no_mangle]
 pub extern "C" fn codeplug_encode_callsign(text: &[u8]) -> EncodeAnswer
     ensures { λ r. ⌜ r ≡ encodeAnswer (encoding (now (text .entry))) ⌝ }
 {
-    encode_answer(m17::encode(text))
+    encode_answer(m17_encoder::encode(text))
 }
 
 // An address number's text, into the first nine bytes of the buffer, and its length; broadcast has none.
@@ -24,7 +24,7 @@ pub extern "C" fn codeplug_encode_callsign(text: &[u8]) -> EncodeAnswer
 pub extern "C" fn codeplug_decode_address(address: u64, out: &mut [u8]) -> DecodeAnswer
     ensures { λ r. ⌜ (r ≡ decodeAnswer (decoding (length (now (out .entry))) address)) × (now (out .exit) ≡ decodedInto (now (out .entry)) address) ⌝ }
 {
-    decode_answer(m17::decode(address, out))
+    decode_answer(m17_decoder::decode(address, out))
 }
 
 // The frequency of a tone, in tenths of a hertz; 0 past the table.

@@ -1,21 +1,12 @@
 // The judge, and the readers of a file.
-use capi_convert::banks::BankAnswer;
-use capi_convert::banks::EntryAnswer;
-use capi_convert::banks::bank_out;
-use capi_convert::banks::entry_answer;
 use capi_convert::channels::ChannelAnswer;
-use capi_convert::channels::channel_out;
 use capi_convert::contacts::ContactAnswer;
-use capi_convert::contacts::contact_out;
+use capi_convert::files::BankAnswer;
+use capi_convert::files::EntryAnswer;
 use capi_convert::files::HeaderAnswer;
 use capi_convert::files::JudgeAnswer;
-use capi_convert::files::header_out;
-use capi_convert::files::judge_answer;
-use codeplug::bytes::bank_bytes;
-use codeplug::bytes::channel_bytes;
-use codeplug::bytes::contact_bytes;
 ghost use mathlib.Core.Path.{_≡_};
-ghost use Rattle.validation.specs.File.{judgement};
+ghost use Rattle.validation.specs.Judgement.{judgement};
 ghost use Rattle.codeplug.specs.Read.{headerRead, contactRead, channelRead, bankRead, entryRead};
 ghost use Rattle.codeplug.specs.Once.{contactOnce, channelOnce, bankOnce, entriesOnce};
 ghost use Rattle.entries.specs.Entry.{entryStep};
@@ -28,7 +19,7 @@ ghost use Rattle.capi_convert.specs.Channels.{ChannelOut};
 pub extern "C" fn codeplug_judge(file: &[u8]) -> JudgeAnswer
     ensures { λ r. ⌜ r ≡ judgedAnswer (judgement (now (file .entry))) ⌝ }
 {
-    judge_answer(validation::judge::judge(file))
+    capi_convert::files::judge_answer(validation::judge::judge(file))
 }
 
 // The header's numbers; author and description, 32 bytes each, go into the first 64 bytes of the buffer.
@@ -36,7 +27,7 @@ pub extern "C" fn codeplug_judge(file: &[u8]) -> JudgeAnswer
 pub extern "C" fn codeplug_header(file: &[u8], texts: &mut [u8]) -> HeaderAnswer
     ensures { λ r. ⌜ HeaderOut (headerRead (now (file .entry))) (now (texts .entry)) r (now (texts .exit)) ⌝ }
 {
-    header_out(texts, codeplug::read::header_verdict(file), file)
+    capi_convert::files::header_out(texts, codeplug::read::header_verdict(file), file)
 }
 
 // Contact n of a file; its name's 32 bytes go into the beginning of the buffer.
@@ -45,7 +36,7 @@ pub extern "C" fn codeplug_contact(file: &[u8], n: usize, name: &mut [u8]) -> Co
     ensures { λ r. ⌜ ContactOut (contactRead (now (file .entry)) n) (now (name .entry)) r (now (name .exit)) ⌝ }
 {
     let v = codeplug::read::contact_verdict(file, n);
-    contact_out(name, v, contact_bytes(file, n, v))
+    capi_convert::contacts::contact_out(name, v, codeplug::bytes::contact_bytes(file, n, v))
 }
 
 // The same of a file that was judged before, without judging it again.
@@ -53,8 +44,8 @@ pub extern "C" fn codeplug_contact(file: &[u8], n: usize, name: &mut [u8]) -> Co
 pub extern "C" fn codeplug_contact_once(file: &[u8], n: usize, name: &mut [u8]) -> ContactAnswer
     ensures { λ r. ⌜ ContactOut (contactOnce (now (file .entry)) n) (now (name .entry)) r (now (name .exit)) ⌝ }
 {
-    let v = codeplug::once::contact_verdict(file, n);
-    contact_out(name, v, contact_bytes(file, n, v))
+    let v = prevalidated::contact_verdict(file, n);
+    capi_convert::contacts::contact_out(name, v, codeplug::bytes::contact_bytes(file, n, v))
 }
 
 // Channel n of a file; name and description, 32 bytes each, go into the first 64 bytes of the buffer.
@@ -63,7 +54,7 @@ pub extern "C" fn codeplug_channel(file: &[u8], n: usize, texts: &mut [u8]) -> C
     ensures { λ r. ⌜ ChannelOut (channelRead (now (file .entry)) n) (now (texts .entry)) r (now (texts .exit)) ⌝ }
 {
     let v = codeplug::read::channel_verdict(file, n);
-    channel_out(texts, v, channel_bytes(file, n, v))
+    capi_convert::channels::channel_out(texts, v, codeplug::bytes::channel_bytes(file, n, v))
 }
 
 // The same of a file that was judged before, without judging it again.
@@ -71,8 +62,8 @@ pub extern "C" fn codeplug_channel(file: &[u8], n: usize, texts: &mut [u8]) -> C
 pub extern "C" fn codeplug_channel_once(file: &[u8], n: usize, texts: &mut [u8]) -> ChannelAnswer
     ensures { λ r. ⌜ ChannelOut (channelOnce (now (file .entry)) n) (now (texts .entry)) r (now (texts .exit)) ⌝ }
 {
-    let v = codeplug::once::channel_verdict(file, n);
-    channel_out(texts, v, channel_bytes(file, n, v))
+    let v = prevalidated::channel_verdict(file, n);
+    capi_convert::channels::channel_out(texts, v, codeplug::bytes::channel_bytes(file, n, v))
 }
 
 // Bank n's entry count; its name's 32 bytes go into the beginning of the buffer.
@@ -81,7 +72,7 @@ pub extern "C" fn codeplug_bank(file: &[u8], n: usize, name: &mut [u8]) -> BankA
     ensures { λ r. ⌜ BankOut (bankRead (now (file .entry)) n) (now (name .entry)) r (now (name .exit)) ⌝ }
 {
     let v = codeplug::read::bank_verdict(file, n);
-    bank_out(name, v, bank_bytes(file, n, v))
+    capi_convert::files::bank_out(name, v, codeplug::bytes::bank_bytes(file, n, v))
 }
 
 // The same of a file that was judged before, without judging it again.
@@ -89,8 +80,8 @@ pub extern "C" fn codeplug_bank(file: &[u8], n: usize, name: &mut [u8]) -> BankA
 pub extern "C" fn codeplug_bank_once(file: &[u8], n: usize, name: &mut [u8]) -> BankAnswer
     ensures { λ r. ⌜ BankOut (bankOnce (now (file .entry)) n) (now (name .entry)) r (now (name .exit)) ⌝ }
 {
-    let v = codeplug::once::bank_verdict(file, n);
-    bank_out(name, v, bank_bytes(file, n, v))
+    let v = prevalidated::bank_verdict(file, n);
+    capi_convert::files::bank_out(name, v, codeplug::bytes::bank_bytes(file, n, v))
 }
 
 // Entry i of a bank: its channel's index, and the next place; 0 both beside a refusal.
@@ -98,7 +89,7 @@ pub extern "C" fn codeplug_bank_once(file: &[u8], n: usize, name: &mut [u8]) -> 
 pub extern "C" fn codeplug_bank_entry(file: &[u8], bank: usize, i: usize) -> EntryAnswer
     ensures { λ r. ⌜ r ≡ entryTaken (entryRead (now (file .entry)) bank i) ⌝ }
 {
-    entry_answer(codeplug::bank_entries::entry(file, bank, i))
+    capi_convert::files::entry_answer(codeplug::bank_entries::entry(file, bank, i))
 }
 
 // The same of a file that was judged before, without judging it again.
@@ -106,5 +97,5 @@ pub extern "C" fn codeplug_bank_entry(file: &[u8], bank: usize, i: usize) -> Ent
 pub extern "C" fn codeplug_bank_entry_once(file: &[u8], bank: usize, i: usize) -> EntryAnswer
     ensures { λ r. ⌜ r ≡ entryTaken (entryStep (entriesOnce (now (file .entry)) bank) i) ⌝ }
 {
-    entry_answer(entries::entry(codeplug::once::entries(file, bank), i))
+    capi_convert::files::entry_answer(entries::entry(prevalidated::entries(file, bank), i))
 }

@@ -1,31 +1,15 @@
 // Contacts and channels written over the beginning of a buffer.
 use capi_convert::channels::InfoFields;
 use capi_convert::contacts::ContactFields;
-use capi_convert::numbers::Refusal;
-use capi_convert::numbers::refusal_of;
+use capi_numbers::Refusal;
+use capi_numbers::refusal_of;
 use channel::Common;
 use fields::rule::Verdict;
 use fields::rule::first;
 use fields::rule::unless;
 use format::refusals::MODE;
 use format::refusals::SHORT_BUFFER;
-use format::refusals::TEXT;
-use format::sizes::CHANNEL_SIZE;
-use format::sizes::CONTACT_SIZE;
-use text::given_ok;
-ghost use Rattle.capi.specs.Write.{ContactAsked, ContactAnswered, ChannelAsked, ChannelAnswered};
-
-fn contact_asked(out: &mut [u8], name: &[u8], v: ContactFields) -> Verdict
-    ensures { λ r. ⌜ ContactAsked (now (out .entry)) (now (name .entry)) v r (now (out .exit)) ⌝ }
-{
-    let mode = v.mode;
-    if mode == contact::DMR || mode == contact::M17 {
-        return contact::write::write(out, name, capi_convert::contacts::info_from(v));
-    }
-    let short = unless(CONTACT_SIZE <= out.len(), SHORT_BUFFER, 0);
-    let text = unless(given_ok(name), TEXT, 0);
-    first(short, first(text, Verdict::Refused(MODE, 32)))
-}
+ghost use Rattle.capi.specs.Write.{ContactAnswered, ChannelAnswered};
 
 // Writes a contact's 39 bytes.
 #[no_mangle]
@@ -36,31 +20,14 @@ pub extern "C" fn codeplug_write_contact(
 ) -> Refusal
     ensures { λ r. ⌜ ContactAnswered (now (out .entry)) (now (name .entry)) values r (now (out .exit)) ⌝ }
 {
-    refusal_of(contact_asked(out, name, values))
-}
-
-fn channel_asked(
-    out: &mut [u8],
-    name: &[u8],
-    description: &[u8],
-    common: Common,
-    info: InfoFields,
-) -> Verdict
-    ensures { λ r. ⌜ ChannelAsked (now (out .entry)) (now (name .entry)) (now (description .entry)) common info r (now (out .exit)) ⌝ }
-{
-    if 2 < info.mode {
-        return first(
-            unless(CHANNEL_SIZE <= out.len(), SHORT_BUFFER, 0),
-            Verdict::Refused(MODE, 0),
-        );
+    let mode = values.mode;
+    if mode == contact::DMR || mode == contact::M17 {
+        let info = capi_convert::contacts::info_from(values);
+        return refusal_of(contact_writer::write(out, name, info));
     }
-    channel_writer::write(
-        out,
-        name,
-        description,
-        common,
-        capi_convert::channels::info_from(info),
-    )
+    let short = unless(format::sizes::CONTACT_SIZE <= out.len(), SHORT_BUFFER, 0);
+    let text = unless(text::given_ok(name), format::refusals::TEXT, 0);
+    refusal_of(first(short, first(text, Verdict::Refused(MODE, 32))))
 }
 
 // Writes a channel's 90 bytes.
@@ -74,5 +41,10 @@ pub extern "C" fn codeplug_write_channel(
 ) -> Refusal
     ensures { λ r. ⌜ ChannelAnswered (now (out .entry)) (now (name .entry)) (now (description .entry)) common info r (now (out .exit)) ⌝ }
 {
-    refusal_of(channel_asked(out, name, description, common, info))
+    if 2 < info.mode {
+        let short = unless(format::sizes::CHANNEL_SIZE <= out.len(), SHORT_BUFFER, 0);
+        return refusal_of(first(short, Verdict::Refused(MODE, 0)));
+    }
+    let info = capi_convert::channels::info_from(info);
+    refusal_of(channel_writer::write(out, name, description, common, info))
 }

@@ -1,99 +1,99 @@
--- What was read, for a buffer: too short, beside a refusal, and a good one with its texts put.
-use mathlib.Core.Path.{_≡_, refl, _∙_}
-use Prim.Native.Nat.{ℕ, _≤_, _<_}
-use mathlib.Core.List.{List, _++_}
+-- What was read, for a buffer: the reader's answer to the verdict that is told, and the record's texts.
+use mathlib.Core.Path.{_≡_, refl, sym, _∙_}
+use Prim.Native.Nat.{ℕ, _≤_}
+use mathlib.Core.Bool.{Bool, true, false, cond}
+use mathlib.Core.List.{List, []}
 use lib.ListN.{length}
-use borrow.Author.Tests.{le-leb, lt-leb}
-use Rattle.fields.specs.Bytes.{part, num, over}
-use Rattle.fields.specs.Rule.{written}
-use native.Mathlib.Omega.{arith}
-use Rattle.fields.proofs.Laws.{part-all}
+use lib.Dec.{leb}
+use borrow.Author.Tests.{leb-true}
+use Rattle.fields.specs.Bytes.{part}
+use Rattle.fields.specs.Rule.{_then_, unless, written}
+use Rattle.fields.proofs.Laws.{part-add, then-good, unless-good}
 use Rattle.fields.specs.declared.rule.Verdict.{Verdict}
 use Rattle.fields.specs.declared.rule.Verdict.the-variants.{Good, Refused}
-use Rattle.layout.specs.Places.{countsOf}
-use Rattle.layout.specs.declared.Counts.{Counts}
-use Rattle.channel.specs.declared.Common.{Common}
-use Rattle.contact.specs.Contact as contact
-use Rattle.contact.specs.declared.ContactRead.{ContactRead}
-use Rattle.channel_reader.specs.Reading as channel
-use Rattle.channel_reader.specs.declared.ChannelRead.{ChannelRead}
-use Rattle.codeplug.specs.Read.{headerOf, blankHeader, headerAnswer, bankOf, blankBank, bankAnswer}
-use Rattle.codeplug.specs.declared.HeaderRead.{HeaderRead}
-use Rattle.codeplug.specs.declared.BankRead.{BankRead}
-use Rattle.capi_convert.specs.Files.{headerTold, headerTaken, headerTexts, HeaderOut, headerRefused, bankTold, bankTaken, bankName, BankOut, bankRefused}
-use Rattle.capi_convert.specs.Contacts.{contactFields, contactTold, contactTaken, contactName, ContactOut, contactRefused}
-use Rattle.capi_convert.specs.Channels.{infoFields, channelTold, channelTaken, channelTexts, ChannelOut, channelRefused}
+use Rattle.contact.specs.Contact.{contactOf, contactAnswer}
+use Rattle.channel_reader.specs.Reading.{channelOf, channelAnswer}
+use Rattle.codeplug.specs.Read.{headerOf, headerAnswer, bankOf, bankAnswer}
+use Rattle.capi_convert.specs.Texts.{TextsPut, toldOf, TextsOut}
+use Rattle.capi_convert.specs.Files.{headerTaken, HeaderOut, bankTaken, BankOut}
+use Rattle.capi_convert.specs.Contacts.{contactTaken, ContactOut}
+use Rattle.capi_convert.specs.Channels.{channelTaken, ChannelOut}
 use Rattle.capi_convert.specs.declared.files.HeaderAnswer.{HeaderAnswer}
-use Rattle.capi_convert.specs.declared.banks.BankAnswer.{BankAnswer}
-use Rattle.capi_convert.specs.declared.contacts.ContactFields.{ContactFields}
+use Rattle.capi_convert.specs.declared.files.BankAnswer.{BankAnswer}
 use Rattle.capi_convert.specs.declared.contacts.ContactAnswer.{ContactAnswer}
-use Rattle.capi_convert.specs.declared.channels.InfoFields.{InfoFields}
 use Rattle.capi_convert.specs.declared.channels.ChannelAnswer.{ChannelAnswer}
 
-module _ (v : Verdict) (s lent : List ℕ) where
-  pub contact-short : (r : ContactAnswer) → length lent < 32 → r ≡ contactRefused 25 0 → ContactOut (contact.contactAnswer v s) lent r lent
-  unfolding contactTold contactTaken contactName contact.contactAnswer contact.blankContact contactRefused written
-  contact-short r h e = let short = lt-leb 32 (length lent) h in record { answered = rw short e; name-is = rw short }
+-- ---- a good verdict told: there is room, and the record's own is good
 
-  pub contact-stops : (r : ContactAnswer) (n p : ℕ) → v ≡ Refused n p → 32 ≤ length lent → r ≡ contactRefused n p → ContactOut (contact.contactAnswer v s) lent r lent
-  unfolding contactTold contactTaken contactName contact.contactAnswer contact.blankContact contactRefused written
-  contact-stops r n p g h e = let fits = le-leb 32 (length lent) h in record { answered = rw (fits, g) e; name-is = rw (fits, g) }
+pub told-good : (size : ℕ) (lent : List ℕ) (v w : Verdict) → w ≡ unless (leb size (length lent)) 25 0 then v → w ≡ Good
+    → (size ≤ length lent) × (v ≡ Good)
+told-good size lent v w e g =
+    let b = then-good _ v (sym e ∙ g) in
+    (leb-true size (length lent) (unless-good _ 25 0 (b .0)), b .1)
 
-  pub contact-goes : (left : List ℕ) (x : ContactFields) → v ≡ Good → 32 ≤ length lent → left ≡ over lent 0 (part s 0 32)
-      → x ≡ contactFields (contact.infoOf s) → ContactOut (contact.contactAnswer v s) lent (record { number = 0; place = 0; values = x }) left
-  unfolding contactTold contactTaken contactName contact.contactAnswer contact.contactOf written
-  contact-goes left x g h o e =
-      let fits = le-leb 32 (length lent) h in
-      record { answered = rw (fits, g, e); name-is = rw (fits, g) o }
+pub put-good : {size : ℕ} {texts lent left : List ℕ} {v w : Verdict} → TextsPut size texts v lent w left → w ≡ Good → v ≡ Good
+put-good {size} {texts} {lent} {left} {v} {w} put g = told-good size lent v w (put .told) g .1
 
-module _ (v : Verdict) (s lent : List ℕ) where
-  pub channel-short : (r : ChannelAnswer) → length lent < 64 → r ≡ channelRefused 25 0 → ChannelOut (channel.channelAnswer v s) lent r lent
-  unfolding channelTold channelTaken channelTexts channel.channelAnswer channel.blankChannel channelRefused written
-  channel-short r h e = let short = lt-leb 64 (length lent) h in record { answered = rw short e; texts-are = rw short }
+-- ---- any reader
 
-  pub channel-stops : (r : ChannelAnswer) (n p : ℕ) → v ≡ Refused n p → 64 ≤ length lent → r ≡ channelRefused n p → ChannelOut (channel.channelAnswer v s) lent r lent
-  unfolding channelTold channelTaken channelTexts channel.channelAnswer channel.blankChannel channelRefused written
-  channel-stops r n p g h e = let fits = le-leb 64 (length lent) h in record { answered = rw (fits, g) e; texts-are = rw (fits, g) }
+module _ {R A : Type 0} (verdict : R → Verdict) (texts : R → List ℕ) (taken : R → A) (answer : Verdict → List ℕ → R) (k size : ℕ)
+    (verdict-is : (v : Verdict) (s : List ℕ) → verdict (answer v s) ≡ v)
+    (texts-are : (s : List ℕ) → texts (answer Good s) ≡ part s k size)
+    (blank : (n p : ℕ) (s t : List ℕ) → answer (Refused n p) s ≡ answer (Refused n p) t) where
+  told-answer : (ok : Bool) (v : Verdict) (s : List ℕ) → cond ok (answer v s) (answer (Refused 25 0) []) ≡ answer (unless ok 25 0 then v) s
+  unfolding unless _then_
+  told-answer true v s = refl
+  told-answer false v s = blank 25 0 [] s
 
-  -- the bytes are taken whole once more
-  pub channel-goes : (left : List ℕ) (x : Common) (y : InfoFields) → v ≡ Good → 64 ≤ length lent → length s ≡ 90
-      → left ≡ over lent 0 (part (part s 0 90) 13 32 ++ part (part s 0 90) 45 32) → x ≡ channel.commonOf (part s 0 90)
-      → y ≡ infoFields (channel.infoOf (part s 0 90))
-      → ChannelOut (channel.channelAnswer v s) lent (record { number = 0; place = 0; common = x; info = y }) left
-  unfolding channelTold channelTaken channelTexts channel.channelAnswer channel.channelOf written
-  channel-goes left x y g h l o d e =
-      let fits = le-leb 64 (length lent) h in
-      let all = part-all s 90 (omega arith) in
-      record { answered = rw (fits, g, d, e, all); texts-are = rw (fits, g) (rw all at o) }
+  put-answer : (w : Verdict) (s lent : List ℕ) → written w lent (part s k size) ≡ written (verdict (answer w s)) lent (texts (answer w s))
+  unfolding written
+  put-answer Good s lent = rw (verdict-is Good s, texts-are s)
+  put-answer (Refused n p) s lent = rw (verdict-is (Refused n p) s)
 
-module _ (v : Verdict) (s lent : List ℕ) where
-  pub header-short : (r : HeaderAnswer) → length lent < 64 → r ≡ headerRefused 25 0 → HeaderOut (headerAnswer v s) lent r lent
-  unfolding headerTold headerTaken headerTexts headerAnswer blankHeader written
-  header-short r h e = let short = lt-leb 64 (length lent) h in record { answered = rw short e; texts-are = rw short }
+  texts-out : (v w : Verdict) (s lent left : List ℕ) (r : A) → TextsPut size (part s k size) v lent w left → r ≡ taken (answer w s)
+      → TextsOut verdict texts taken size (answer (Refused 25 0) []) (answer v s) lent r left
+  texts-out v w s lent left r put e =
+      let same : toldOf size (answer (Refused 25 0) []) lent (answer v s) ≡ answer w s = told-answer (leb size (length lent)) v s ∙ rw (put .told) in
+      record { answered = rw same e; left-is = rw same (put .left-is ∙ put-answer w s lent) }
 
-  pub header-stops : (r : HeaderAnswer) (n p : ℕ) → v ≡ Refused n p → 64 ≤ length lent → r ≡ headerRefused n p → HeaderOut (headerAnswer v s) lent r lent
-  unfolding headerTold headerTaken headerTexts headerAnswer blankHeader written
-  header-stops r n p g h e = let fits = le-leb 64 (length lent) h in record { answered = rw (fits, g) e; texts-are = rw (fits, g) }
+-- ---- each reader: its verdict, its texts, and that beside a refusal the bytes do not matter
 
-  pub header-goes : (left : List ℕ) (t : ℕ) (k : Counts) → v ≡ Good → 64 ≤ length lent → left ≡ over lent 0 (part s 10 32 ++ part s 42 32)
-      → t ≡ num s 74 8 → k ≡ countsOf s → HeaderOut (headerAnswer v s) lent (record { number = 0; place = 0; timestamp = t; counts = k }) left
-  unfolding headerTold headerTaken headerTexts headerAnswer headerOf written
-  header-goes left t k g h o d e =
-      let fits = le-leb 64 (length lent) h in
-      record { answered = rw (fits, g, d, e); texts-are = rw (fits, g) o }
+pub contact-verdict : (v : Verdict) (s : List ℕ) → contactAnswer v s .verdict ≡ v
+unfolding contactAnswer
+contact-verdict Good s = refl
+contact-verdict (Refused n p) s = refl
 
-module _ (v : Verdict) (s lent : List ℕ) where
-  pub bank-short : (r : BankAnswer) → length lent < 32 → r ≡ bankRefused 25 0 → BankOut (bankAnswer v s) lent r lent
-  unfolding bankTold bankTaken bankName bankAnswer blankBank written
-  bank-short r h e = let short = lt-leb 32 (length lent) h in record { answered = rw short e; name-is = rw short }
+pub contact-out : (v w : Verdict) (s lent left : List ℕ) (r : ContactAnswer) → TextsPut 32 (part s 0 32) v lent w left
+    → r ≡ contactTaken (contactAnswer w s) → ContactOut (contactAnswer v s) lent r left
+unfolding contactAnswer contactOf
+contact-out = texts-out _ _ contactTaken contactAnswer 0 32 contact-verdict (λ s. refl) (λ n p s t. refl)
 
-  pub bank-stops : (r : BankAnswer) (n p : ℕ) → v ≡ Refused n p → 32 ≤ length lent → r ≡ bankRefused n p → BankOut (bankAnswer v s) lent r lent
-  unfolding bankTold bankTaken bankName bankAnswer blankBank written
-  bank-stops r n p g h e = let fits = le-leb 32 (length lent) h in record { answered = rw (fits, g) e; name-is = rw (fits, g) }
+pub channel-verdict : (v : Verdict) (s : List ℕ) → channelAnswer v s .verdict ≡ v
+unfolding channelAnswer
+channel-verdict Good s = refl
+channel-verdict (Refused n p) s = refl
 
-  pub bank-goes : (left : List ℕ) (x : ℕ) → v ≡ Good → 32 ≤ length lent → left ≡ over lent 0 (part s 0 32)
-      → x ≡ num s 32 2 → BankOut (bankAnswer v s) lent (record { number = 0; place = 0; entries = x }) left
-  unfolding bankTold bankTaken bankName bankAnswer bankOf written
-  bank-goes left x g h o e =
-      let fits = le-leb 32 (length lent) h in
-      record { answered = rw (fits, g, e); name-is = rw (fits, g) o }
+pub channel-out : (v w : Verdict) (s lent left : List ℕ) (r : ChannelAnswer) → TextsPut 64 (part s 13 64) v lent w left
+    → r ≡ channelTaken (channelAnswer w s) → ChannelOut (channelAnswer v s) lent r left
+unfolding channelAnswer channelOf
+channel-out = texts-out _ _ channelTaken channelAnswer 13 64 channel-verdict (λ s. rw (part-add s 13 32 32)) (λ n p s t. refl)
+
+pub header-verdict : (v : Verdict) (s : List ℕ) → headerAnswer v s .verdict ≡ v
+unfolding headerAnswer
+header-verdict Good s = refl
+header-verdict (Refused n p) s = refl
+
+pub header-out : (v w : Verdict) (s lent left : List ℕ) (r : HeaderAnswer) → TextsPut 64 (part s 10 64) v lent w left
+    → r ≡ headerTaken (headerAnswer w s) → HeaderOut (headerAnswer v s) lent r left
+unfolding headerAnswer headerOf
+header-out = texts-out _ _ headerTaken headerAnswer 10 64 header-verdict (λ s. rw (part-add s 10 32 32)) (λ n p s t. refl)
+
+pub bank-verdict : (v : Verdict) (s : List ℕ) → bankAnswer v s .verdict ≡ v
+unfolding bankAnswer
+bank-verdict Good s = refl
+bank-verdict (Refused n p) s = refl
+
+pub bank-out : (v w : Verdict) (s lent left : List ℕ) (r : BankAnswer) → TextsPut 32 (part s 0 32) v lent w left
+    → r ≡ bankTaken (bankAnswer w s) → BankOut (bankAnswer v s) lent r left
+unfolding bankAnswer bankOf
+bank-out = texts-out _ _ bankTaken bankAnswer 0 32 bank-verdict (λ s. refl) (λ n p s t. refl)

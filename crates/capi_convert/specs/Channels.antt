@@ -1,21 +1,19 @@
 -- A channel as numbers, and back.
-use mathlib.Core.Path.{_≡_}
 use Prim.Native.Nat.{ℕ}
 use mathlib.Core.Bool.{Bool, true, false, cond}
 use mathlib.Core.List.{List, [], _++_}
-use lib.ListN.{length}
-use lib.Dec.{leb, eqb}
-use Rattle.fields.specs.Rule.{written}
+use lib.Dec.{eqb}
 use Rattle.fields.specs.declared.rule.Verdict.the-variants.{Refused}
 use Rattle.tones.specs.Tone.{toneIndex}
 use Rattle.tones.specs.declared.Tone.{Tone}
 use Rattle.tones.specs.declared.Tone.the-variants.{Enabled, Disabled}
 use Rattle.channel.specs.Values.{contactIndexOf, contactIndexNumber}
-use Rattle.channel_reader.specs.Reading.{blankChannel, channelAnswer}
+use Rattle.channel_reader.specs.Reading.{channelAnswer}
 use Rattle.channel.specs.declared.Info.{Info}
 use Rattle.channel.specs.declared.Info.the-variants.{Fm, Dmr, M17}
 use Rattle.channel_reader.specs.declared.ChannelRead.{ChannelRead}
-use Rattle.capi_convert.specs.Numbers.{refusalOf}
+use Rattle.capi_numbers.specs.Numbers.{refusalOf}
+use Rattle.capi_convert.specs.Texts.{TextsOut}
 use Rattle.capi_convert.specs.declared.channels.InfoFields.{InfoFields}
 use Rattle.capi_convert.specs.declared.channels.ChannelAnswer.{ChannelAnswer}
 
@@ -36,11 +34,9 @@ infoFields (Fm i) =
       «receive_tone_on» = toneOn (i .receive);
       «transmit_tone» = toneIndex (i .transmit);
       «transmit_tone_on» = toneOn (i .transmit);
-      «receive_colour» = 0;
-      «transmit_colour» = 0;
+      colours = record { high = 0; low = 0 };
       slot = 0;
-      «receive_access» = 0;
-      «transmit_access» = 0;
+      access = record { high = 0; low = 0 };
       operation = 0;
       encryption = 0;
       position = false;
@@ -53,11 +49,9 @@ infoFields (Dmr i) =
       «receive_tone_on» = false;
       «transmit_tone» = 0;
       «transmit_tone_on» = false;
-      «receive_colour» = i .colours .high;
-      «transmit_colour» = i .colours .low;
+      colours = i .colours;
       slot = i .slot;
-      «receive_access» = 0;
-      «transmit_access» = 0;
+      access = record { high = 0; low = 0 };
       operation = 0;
       encryption = 0;
       position = false;
@@ -70,41 +64,21 @@ infoFields (M17 i) =
       «receive_tone_on» = false;
       «transmit_tone» = 0;
       «transmit_tone_on» = false;
-      «receive_colour» = 0;
-      «transmit_colour» = 0;
+      colours = record { high = 0; low = 0 };
       slot = 0;
-      «receive_access» = i .access .high;
-      «transmit_access» = i .access .low;
+      access = i .access;
       operation = i .operation;
       encryption = i .encryption;
       position = i .position;
     }
 
--- ---- what was read of a channel, its texts into a buffer of so many bytes: 25 at 0 first
-
-unfoldable pub channelTold : ℕ → ChannelRead → ChannelRead
-channelTold size r = cond (leb 64 size) r (channelAnswer (Refused 25 0) [])
+-- ---- what was read of a channel, and name and description into a buffer
 
 unfoldable pub channelTaken : ChannelRead → ChannelAnswer
-channelTaken r =
-    record {
-      number = refusalOf (r .verdict) .number;
-      place = refusalOf (r .verdict) .place;
-      common = r .channel .common;
-      info = infoFields (r .channel .info);
-    }
+channelTaken r = record { refusal = refusalOf (r .verdict); common = r .channel .common; info = infoFields (r .channel .info) }
 
--- the later contents of the buffer: name and description over its beginning, or all as lent
-unfoldable pub channelTexts : ChannelRead → List ℕ → List ℕ
-channelTexts r texts = written (r .verdict) texts (r .channel .name ++ r .channel .description)
-
--- an answer, and the buffer left, are those of what was read
-pub record ChannelOut (read : ChannelRead) (lent : List ℕ) (r : ChannelAnswer) (left : List ℕ) : Type 0 where
-  pub answered : r ≡ channelTaken (channelTold (length lent) read)
-  pub texts-are : left ≡ channelTexts (channelTold (length lent) read) lent
-
-unfoldable pub channelRefused : ℕ → ℕ → ChannelAnswer
-channelRefused n p = record { number = n; place = p; common = blankChannel .common; info = infoFields (blankChannel .info) }
+abbrev pub ChannelOut : ChannelRead → List ℕ → ChannelAnswer → List ℕ → Type 0
+ChannelOut = TextsOut (λ r. r .verdict) (λ r. r .channel .name ++ r .channel .description) channelTaken 64 (channelAnswer (Refused 25 0) [])
 
 -- ---- writing
 
@@ -118,12 +92,12 @@ infoFrom v =
     }))
     (cond (eqb (v .mode) 1)
     (Dmr (record {
-      colours = record { high = v .«receive_colour»; low = v .«transmit_colour» };
+      colours = v .colours;
       slot = v .slot;
       contact = contactIndexOf (v .contact);
     }))
     (M17 (record {
-      access = record { high = v .«receive_access»; low = v .«transmit_access» };
+      access = v .access;
       operation = v .operation;
       encryption = v .encryption;
       position = v .position;

@@ -1,5 +1,5 @@
 -- The library's answers as structures of C, and back.
-pub mod Numbers
+pub mod Texts
 pub mod Files
 pub mod Contacts
 pub mod Channels

@@ -1,30 +1,23 @@
 // A channel as numbers, and back.
-use crate::texts::put_text;
 use bits::Halves;
+use capi_numbers::GOOD;
+use capi_numbers::Refusal;
 use channel::Common;
 use channel::DmrInfo;
 use channel::FmInfo;
 use channel::Info;
 use channel::M17Info;
 use channel::values::contact_index_number;
-use channel::values::contact_index_of;
-use channel_reader::common_of;
-use channel_reader::dmr_of;
-use channel_reader::fm_of;
-use channel_reader::m17_of;
-use fields::numbers::byte_at;
 use fields::rule::Verdict;
-use format::refusals::SHORT_BUFFER;
-use format::sizes::TEXTS_SIZE;
 use tones::Tone;
 use tones::index_in;
 ghost use mathlib.Core.Path.{_≡_};
 ghost use lib.ListN.{length};
 ghost use Rattle.channel_reader.specs.Reading.{infoOf, channelAnswer};
-ghost use Rattle.capi_convert.specs.Channels.{toneOn, toneFrom, infoFields, channelRefused, ChannelOut, infoFrom};
+ghost use Rattle.capi_convert.specs.Channels.{toneOn, toneFrom, infoFields, ChannelOut, infoFrom};
 
-// Mode 0 is FM (the tones), 1 DMR (colours, slot, contact), 2 M17 (access, operation, encryption, position, contact). The other modes'
-// numbers are 0, and the contact 65,535, which is nobody.
+// Mode 0 is FM (the tones), 1 DMR (colours, slot, contact), 2 M17 (access, operation, encryption, position, contact). Of colours and
+// access the high half is for receive, the low for transmit.
 #[repr(C)]
 pub struct InfoFields {
     pub contact: u16,
@@ -33,11 +26,9 @@ pub struct InfoFields {
     pub receive_tone_on: bool,
     pub transmit_tone: u8,
     pub transmit_tone_on: bool,
-    pub receive_colour: u8,
-    pub transmit_colour: u8,
+    pub colours: Halves,
     pub slot: u8,
-    pub receive_access: u8,
-    pub transmit_access: u8,
+    pub access: Halves,
     pub operation: u8,
     pub encryption: u8,
     pub position: bool,
@@ -45,11 +36,26 @@ pub struct InfoFields {
 
 #[repr(C)]
 pub struct ChannelAnswer {
-    pub number: u8,
-    pub place: usize,
+    pub refusal: Refusal,
     pub common: Common,
     pub info: InfoFields,
 }
+
+// A blank channel's numbers; in another channel's, those of the other modes. Contact 65,535 is nobody.
+const NO_INFO: InfoFields = InfoFields {
+    contact: 65535,
+    mode: channel::FM,
+    receive_tone: 0,
+    receive_tone_on: false,
+    transmit_tone: 0,
+    transmit_tone_on: false,
+    colours: Halves { high: 0, low: 0 },
+    slot: 0,
+    access: Halves { high: 0, low: 0 },
+    operation: 0,
+    encryption: 0,
+    position: false,
+};
 
 fn tone_on(t: Tone) -> bool
     ensures { λ r. ⌜ r ≡ toneOn t ⌝ }
@@ -65,97 +71,49 @@ fn fm_fields(i: FmInfo) -> InfoFields
 {
     let receive = i.receive;
     let transmit = i.transmit;
-    InfoFields {
-        contact: 65535,
-        mode: channel::FM,
-        receive_tone: index_in(receive),
-        receive_tone_on: tone_on(receive),
-        transmit_tone: index_in(transmit),
-        transmit_tone_on: tone_on(transmit),
-        receive_colour: 0,
-        transmit_colour: 0,
-        slot: 0,
-        receive_access: 0,
-        transmit_access: 0,
-        operation: 0,
-        encryption: 0,
-        position: false,
-    }
+    let mut v = NO_INFO;
+    v.receive_tone = index_in(receive);
+    v.receive_tone_on = tone_on(receive);
+    v.transmit_tone = index_in(transmit);
+    v.transmit_tone_on = tone_on(transmit);
+    v
 }
 
 fn dmr_fields(i: DmrInfo) -> InfoFields
     ensures { λ r. ⌜ r ≡ infoFields (Info.Dmr i) ⌝ }
 {
-    let colours = i.colours;
     let contact = i.contact;
-    InfoFields {
-        contact: contact_index_number(contact),
-        mode: channel::DMR,
-        receive_tone: 0,
-        receive_tone_on: false,
-        transmit_tone: 0,
-        transmit_tone_on: false,
-        receive_colour: colours.high,
-        transmit_colour: colours.low,
-        slot: i.slot,
-        receive_access: 0,
-        transmit_access: 0,
-        operation: 0,
-        encryption: 0,
-        position: false,
-    }
+    let colours = i.colours;
+    let mut v = NO_INFO;
+    v.contact = contact_index_number(contact);
+    v.mode = channel::DMR;
+    v.colours = colours;
+    v.slot = i.slot;
+    v
 }
 
 fn m17_fields(i: M17Info) -> InfoFields
     ensures { λ r. ⌜ r ≡ infoFields (Info.M17 i) ⌝ }
 {
-    let access = i.access;
     let contact = i.contact;
-    InfoFields {
-        contact: contact_index_number(contact),
-        mode: channel::M17,
-        receive_tone: 0,
-        receive_tone_on: false,
-        transmit_tone: 0,
-        transmit_tone_on: false,
-        receive_colour: 0,
-        transmit_colour: 0,
-        slot: 0,
-        receive_access: access.high,
-        transmit_access: access.low,
-        operation: i.operation,
-        encryption: i.encryption,
-        position: i.position,
-    }
+    let access = i.access;
+    let mut v = NO_INFO;
+    v.contact = contact_index_number(contact);
+    v.mode = channel::M17;
+    v.access = access;
+    v.operation = i.operation;
+    v.encryption = i.encryption;
+    v.position = i.position;
+    v
 }
 
 fn fields_of(s: &[u8]) -> InfoFields
     ensures { λ r. ⌜ r ≡ infoFields (infoOf (now (s .entry))) ⌝ }
 {
-    let mode = byte_at(s, 0);
-    if mode == channel::FM {
-        return fm_fields(fm_of(s));
-    }
-    if mode == channel::DMR {
-        return dmr_fields(dmr_of(s));
-    }
-    m17_fields(m17_of(s))
-}
-
-fn channel_refused(number: u8, place: usize) -> ChannelAnswer
-    ensures { λ r. ⌜ r ≡ channelRefused number place ⌝ }
-{
-    let blank = channel_reader::blank();
-    let common = blank.common;
-    let tones = FmInfo {
-        receive: Tone::Disabled(0),
-        transmit: Tone::Disabled(0),
-    };
-    ChannelAnswer {
-        number,
-        place,
-        common,
-        info: fm_fields(tones),
+    match fields::numbers::byte_at(s, 0) {
+        channel::FM => fm_fields(channel_reader::fm_of(s)),
+        channel::DMR => dmr_fields(channel_reader::dmr_of(s)),
+        _ => m17_fields(channel_reader::m17_of(s)),
     }
 }
 
@@ -165,22 +123,21 @@ pub fn channel_out(texts: &mut [u8], v: Verdict, s: &[u8]) -> ChannelAnswer
     requires { ⌜ (v ≡ Verdict.Good → length (now s) ≡ 90) ⌝ }
     ensures { λ r. ⌜ ChannelOut (channelAnswer v (now (s .entry))) (now (texts .entry)) r (now (texts .exit)) ⌝ }
 {
-    if texts.len() < TEXTS_SIZE {
-        return channel_refused(SHORT_BUFFER, 0);
+    let told = crate::texts::put_texts(texts, v, s, 13);
+    if let Verdict::Refused(number, place) = told {
+        let blank = channel_reader::blank();
+        let common = blank.common;
+        return ChannelAnswer {
+            refusal: Refusal { number, place },
+            common,
+            info: NO_INFO,
+        };
     }
-    match v {
-        Verdict::Good => {
-            let whole = &s[0..90];
-            put_text(texts, 0, whole, 13);
-            put_text(texts, 32, whole, 45);
-            ChannelAnswer {
-                number: 0,
-                place: 0,
-                common: common_of(whole),
-                info: fields_of(whole),
-            }
-        }
-        Verdict::Refused(number, place) => channel_refused(number, place),
+    let whole = &s[0..90];
+    ChannelAnswer {
+        refusal: GOOD,
+        common: channel_reader::common_of(whole),
+        info: fields_of(whole),
     }
 }
 
@@ -198,6 +155,7 @@ fn tone_from(index: u8, on: bool) -> Tone
 pub fn info_from(v: InfoFields) -> Info
     ensures { λ r. ⌜ r ≡ infoFrom v ⌝ }
 {
+    let contact = channel::values::contact_index_of(v.contact);
     if v.mode == channel::FM {
         return Info::Fm(FmInfo {
             receive: tone_from(v.receive_tone, v.receive_tone_on),
@@ -205,25 +163,19 @@ pub fn info_from(v: InfoFields) -> Info
         });
     }
     if v.mode == channel::DMR {
-        let colours = Halves {
-            high: v.receive_colour,
-            low: v.transmit_colour,
-        };
+        let colours = v.colours;
         return Info::Dmr(DmrInfo {
             colours,
             slot: v.slot,
-            contact: contact_index_of(v.contact),
+            contact,
         });
     }
-    let access = Halves {
-        high: v.receive_access,
-        low: v.transmit_access,
-    };
+    let access = v.access;
     Info::M17(M17Info {
         access,
         operation: v.operation,
         encryption: v.encryption,
         position: v.position,
-        contact: contact_index_of(v.contact),
+        contact,
     })
 }

@@ -1,18 +1,15 @@
 // A contact as numbers, and back.
-use crate::texts::put_text;
+use capi_numbers::Refusal;
 use contact::ContactInfo;
 use contact::DmrContact;
 use contact::Settings;
-use contact::read::info_of;
 use fields::rule::Verdict;
-use format::refusals::SHORT_BUFFER;
-use format::sizes::TEXT_SIZE;
 use m17::Address;
 ghost use mathlib.Core.Path.{_≡_};
 ghost use Prim.Native.Nat.{_≤_};
 ghost use lib.ListN.{length};
 ghost use Rattle.contact.specs.Contact.{contactAnswer};
-ghost use Rattle.capi_convert.specs.Contacts.{isBroadcast, addressFrom, contactFields, contactRefused, ContactOut, infoFrom};
+ghost use Rattle.capi_convert.specs.Contacts.{isBroadcast, contactFields, ContactOut, infoFrom};
 
 // A contact but for its name. Mode 1 is DMR (id, kind, rx tone), mode 2 is M17 (address, broadcast); the other mode's numbers are 0.
 #[repr(C)]
@@ -27,8 +24,7 @@ pub struct ContactFields {
 
 #[repr(C)]
 pub struct ContactAnswer {
-    pub number: u8,
-    pub place: usize,
+    pub refusal: Refusal,
     pub values: ContactFields,
 }
 
@@ -67,46 +63,18 @@ fn contact_fields(info: ContactInfo) -> ContactFields
     }
 }
 
-fn contact_refused(number: u8, place: usize) -> ContactAnswer
-    ensures { λ r. ⌜ r ≡ contactRefused number place ⌝ }
-{
-    let blank = contact::read::blank();
-    let info = blank.info;
-    ContactAnswer {
-        number,
-        place,
-        values: contact_fields(info),
-    }
-}
-
 // A contact with this verdict from its 39 bytes; its name goes into the buffer.
 pub fn contact_out(name: &mut [u8], v: Verdict, s: &[u8]) -> ContactAnswer
     requires { ⌜ (v ≡ Verdict.Good → 39 ≤ length (now s)) ⌝ }
     ensures { λ r. ⌜ ContactOut (contactAnswer v (now (s .entry))) (now (name .entry)) r (now (name .exit)) ⌝ }
 {
-    if name.len() < TEXT_SIZE {
-        return contact_refused(SHORT_BUFFER, 0);
-    }
-    match v {
-        Verdict::Good => {
-            put_text(name, 0, s, 0);
-            ContactAnswer {
-                number: 0,
-                place: 0,
-                values: contact_fields(info_of(s)),
-            }
-        }
-        Verdict::Refused(number, place) => contact_refused(number, place),
-    }
-}
-
-fn address_from(broadcast: bool, number: u64) -> Address
-    ensures { λ r. ⌜ r ≡ addressFrom broadcast number ⌝ }
-{
-    if broadcast {
-        Address::Broadcast
-    } else {
-        Address::Callsign(number)
+    let told = crate::texts::put_name(name, v, s);
+    let read = contact_reader::answer(told, s);
+    let contact = read.contact;
+    let info = contact.info;
+    ContactAnswer {
+        refusal: capi_numbers::refusal_of(told),
+        values: contact_fields(info),
     }
 }
 
@@ -121,5 +89,8 @@ pub fn info_from(v: ContactFields) -> ContactInfo
         };
         return ContactInfo::Dmr(DmrContact { id: v.id, settings });
     }
-    ContactInfo::M17(address_from(v.broadcast, v.address))
+    if v.broadcast {
+        return ContactInfo::M17(Address::Broadcast);
+    }
+    ContactInfo::M17(Address::Callsign(v.address))
 }

@@ -65,6 +65,10 @@ dmrContactAt = 87
 abbrev pub m17ContactAt : ℕ
 m17ContactAt = 88
 
+-- the same by the channel's mode, 1 or 2
+abbrev pub contactIndexPlace : ℕ → ℕ
+contactIndexPlace m = cond (eqb m 1) dmrContactAt m17ContactAt
+
 -- contact index: 65,535 means none
 unfoldable pub contactIndexOf : ℕ → ContactIndex
 contactIndexOf x = cond (eqb x 65535) contact.Nobody (contact.Index x)

@@ -1,7 +1,5 @@
-// Channel records of 90 bytes: their values, and their judge (document 01, "The file").
-pub mod judge; // judge.rt: the first bad field of a channel
+// Channel records of 90 bytes: their types and single values (document 01, "The file").
 pub mod values; // values.rt: the rules of single values
-pub mod whole; // whole.rt: whether a whole channel is good, without a branch
 
 use bits::Halves;
 use tones::Tone;

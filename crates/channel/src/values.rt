@@ -8,9 +8,10 @@ use format::sizes::DMR_CONTACT_AT;
 use format::sizes::M17_CONTACT_AT;
 ghost use mathlib.Core.Path.{_≡_};
 ghost use mathlib.Core.Bool.{_&&_};
+ghost use Prim.Native.Nat.{_≤_};
 ghost use Rattle.bits.specs.Packed.{signedOf};
 ghost use Rattle.channel.specs.Rule.{namedContact};
-ghost use Rattle.channel.specs.Values.{traitsOf, traitsChoice, latitudeOk, latitudeFractionOk, fractionOk, slotOk, operationOk, encryptionOk, contactIndexOf, contactIndexNumber};
+ghost use Rattle.channel.specs.Values.{traitsOf, traitsChoice, latitudeOk, latitudeFractionOk, fractionOk, slotOk, operationOk, encryptionOk, contactIndexPlace, contactIndexOf, contactIndexNumber};
 
 pub fn traits_of(b: u8) -> Traits
     ensures { λ r. ⌜ r ≡ traitsOf b ⌝ }
@@ -62,6 +63,17 @@ pub fn operation_ok(operation: u8, encryption: u8) -> bool
     ensures { λ r. ⌜ r ≡ operationOk operation && encryptionOk encryption ⌝ }
 {
     1 <= operation && operation <= 3 && encryption <= 2
+}
+
+// Where a channel of this mode has its contact index; an FM channel has none.
+pub fn contact_index_place(mode: u8) -> usize
+    ensures { λ r. ⌜ (r ≡ contactIndexPlace mode) × (r ≤ 88) ⌝ }
+{
+    if mode == crate::DMR {
+        DMR_CONTACT_AT
+    } else {
+        M17_CONTACT_AT
+    }
 }
 
 pub fn contact_index_of(x: u16) -> ContactIndex

@@ -35,9 +35,7 @@ use text::given_ok;
 use tones::tone_byte;
 use tones::tone_good;
 ghost use mathlib.Core.Path.{_≡_};
-ghost use mathlib.Core.Bool.{true};
 ghost use mathlib.Core.List.{_++_};
-ghost use Prim.Native.Nat.{_≤_};
 ghost use lib.ListN.{length, take, drop};
 ghost use Rattle.fields.specs.Bytes.{zeros, over};
 ghost use Rattle.channel_writer.specs.Writing.{headGiven, locationGiven, infoGiven, channelGiven, headBytes, locationBytes, infoBytes, channelBytes, channelWritten};
@@ -200,11 +198,11 @@ fn put_info(dst: &mut [u8], info: Info)
 }
 
 // The record, from 90 zeros.
-fn record_bytes(name: &[u8], description: &[u8], common: Common, info: Info) -> [u8; 90]
+fn record_bytes(name: &[u8], description: &[u8], common: Common, info: Info) -> [u8; CHANNEL_SIZE]
     requires { ⌜ channelGiven 90 (now name) (now description) common info ≡ Verdict.Good ⌝ }
     ensures { λ r. ⌜ r ≡ channelBytes (now (name .entry)) (now (description .entry)) common info ⌝ }
 {
-    let mut r = [0u8; 90];
+    let mut r = [0u8; CHANNEL_SIZE];
     put_head(&mut r, mode_number(info), common);
     put(&mut r, 13, name);
     put(&mut r, 45, description);
@@ -215,7 +213,8 @@ fn record_bytes(name: &[u8], description: &[u8], common: Common, info: Info) -> 
 
 // Writes a channel over the beginning of a buffer.
 pub fn write(out: &mut [u8], name: &[u8], description: &[u8], common: Common, info: Info) -> Verdict
-    ensures { λ r. ⌜ (r ≡ channelGiven (length (now (out .entry))) (now (name .entry)) (now (description .entry)) common info) × (now (out .exit) ≡ channelWritten (now (out .entry)) (now (name .entry)) (now (description .entry)) common info) ⌝ }
+    ensures { λ r. ⌜ (r ≡ channelGiven (length (now (out .entry))) (now (name .entry)) (now (description .entry)) common info)
+        × (now (out .exit) ≡ channelWritten (now (out .entry)) (now (name .entry)) (now (description .entry)) common info) ⌝ }
 {
     let verdict = given(out.len(), name, description, common, info);
     match verdict {

@@ -26,9 +26,9 @@ use Rattle.layout.specs.Banks.{bankPlace, entryCount}
 use Rattle.layout.proofs.Laws.{bank-good, entry-good}
 use Rattle.entries.specs.Entry.{entryStep}
 use Rattle.entries.specs.declared.EntryStep.the-variants as step
-use Rattle.validation.specs.File.{namesContact, indexOk, fileRule}
+use Rattle.file_rule.specs.File.{namesContact, indexOk, fileRule}
 use Rattle.codeplug.specs.Read.{placeRule, contactRead, channelRead, bankAnswer, bankRead, entriesAnswer, entriesRead, entryAnswer, entryRead}
-use Rattle.validation.proofs.Laws.{file-good, channel-there}
+use Rattle.file_rule.proofs.Laws.{file-good, channel-there}
 use Rattle.codeplug.proofs.Laws.{place-good, place-passes}
 
 -- ---- every record below its count is read

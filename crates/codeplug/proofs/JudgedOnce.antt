@@ -13,10 +13,10 @@ use Rattle.fields.proofs.Laws.{good-then, both-good}
 use Rattle.layout.specs.Places.{contactCount, channelCount, bankCount, contactPlace, channelPlace, offsetPlace}
 use Rattle.layout.specs.Banks.{offsetAt, bankHead, bankPlace}
 use Rattle.layout.proofs.Laws.{offset-good, bank-good}
-use Rattle.validation.specs.File.{contactAt, channelAt, fileRule}
+use Rattle.file_rule.specs.File.{contactAt, channelAt, fileRule}
 use Rattle.codeplug.specs.Read.{placeRule, contactRead, channelRead, bankRead, entriesRead}
 use Rattle.codeplug.specs.Once.{contactOnce, channelOnce, tablePlace, bankOnceRule, bankOnce, entriesOnce}
-use Rattle.validation.proofs.Laws.{file-good, contact-there, channel-there}
+use Rattle.file_rule.proofs.Laws.{file-good, contact-there, channel-there}
 use Rattle.codeplug.proofs.Laws.{table-leads, placed-leads, bank-same, entries-same}
 
 -- 33, then the record's own verdict, which is good: as after judging the whole file

@@ -16,11 +16,11 @@ use Rattle.channel_reader.specs.Reading.{channelAnswer}
 use Rattle.layout.specs.Places.{contactCount, channelCount, bankCount, contactPlace, channelPlace, offsetPlace}
 use Rattle.layout.specs.Banks.{offsetAt, bankHead, banksRule, bankPlace}
 use Rattle.layout.proofs.Laws.{bank-leads, bank-good, bank-head-length}
-use Rattle.validation.specs.File.{fileRule}
-use Rattle.codeplug.specs.Read.{placeRule, contactRead, channelRead, bankAnswer, bankRead, entriesAnswer}
+use Rattle.file_rule.specs.File.{fileRule}
+use Rattle.codeplug.specs.Read.{bytesAnswer, placeRule, contactRead, channelRead, bankAnswer, bankRead, entriesAnswer}
 use Rattle.codeplug.specs.Once.{contactOnceRule, contactOnce, channelOnceRule, channelOnce, tablePlace, bankOnceRule, bankOnce}
 use Rattle.codeplug.specs.There.{BankLed}
-use Rattle.validation.proofs.Laws.{file-good, contact-there, contact-whole, channel-there, channel-whole}
+use Rattle.file_rule.proofs.Laws.{file-good, contact-there, contact-whole, channel-there, channel-whole}
 
 -- ---- bank n, where its offset leads
 
@@ -122,32 +122,37 @@ entries-same (Refused n a) f p q h = refl
 
 -- ---- what is read, from the record's verdict and its bytes
 
+pub bytes-good : (v : Verdict) (s t : List ℕ) → s ≡ bytesAnswer v t → v ≡ Good → s ≡ t
+unfolding bytesAnswer
+bytes-good Good s t h g = h
+bytes-good (Refused n p) s t h g = never refl g
+
 pub contact-read : (f : List ℕ) (n : ℕ) (v : Verdict) (s : List ℕ) → v ≡ placeRule f n (contactCount f)
-    → (v ≡ Good → s ≡ part f (contactPlace n) 39) → contactAnswer v s ≡ contactRead f n
+    → s ≡ bytesAnswer v (part f (contactPlace n) 39) → contactAnswer v s ≡ contactRead f n
 unfolding contactRead
-contact-read f n v s e h = contact-same v s _ h ∙ rw e
+contact-read f n v s e h = contact-same v s _ (bytes-good v s _ h) ∙ rw e
 
 pub contact-read-once : (f : List ℕ) (n : ℕ) (v : Verdict) (s : List ℕ) → v ≡ contactOnceRule f n
-    → (v ≡ Good → s ≡ part f (contactPlace n) 39) → contactAnswer v s ≡ contactOnce f n
+    → s ≡ bytesAnswer v (part f (contactPlace n) 39) → contactAnswer v s ≡ contactOnce f n
 unfolding contactOnce
-contact-read-once f n v s e h = contact-same v s _ h ∙ rw e
+contact-read-once f n v s e h = contact-same v s _ (bytes-good v s _ h) ∙ rw e
 
 pub channel-read : (f : List ℕ) (n : ℕ) (v : Verdict) (s : List ℕ) → v ≡ placeRule f n (channelCount f)
-    → (v ≡ Good → s ≡ part f (channelPlace f n) 90) → channelAnswer v s ≡ channelRead f n
+    → s ≡ bytesAnswer v (part f (channelPlace f n) 90) → channelAnswer v s ≡ channelRead f n
 unfolding channelRead
-channel-read f n v s e h = channel-same v s _ h ∙ rw e
+channel-read f n v s e h = channel-same v s _ (bytes-good v s _ h) ∙ rw e
 
 pub channel-read-once : (f : List ℕ) (n : ℕ) (v : Verdict) (s : List ℕ) → v ≡ channelOnceRule f n
-    → (v ≡ Good → s ≡ part f (channelPlace f n) 90) → channelAnswer v s ≡ channelOnce f n
+    → s ≡ bytesAnswer v (part f (channelPlace f n) 90) → channelAnswer v s ≡ channelOnce f n
 unfolding channelOnce
-channel-read-once f n v s e h = channel-same v s _ h ∙ rw e
+channel-read-once f n v s e h = channel-same v s _ (bytes-good v s _ h) ∙ rw e
 
 pub bank-read : (f : List ℕ) (n : ℕ) (v : Verdict) (s : List ℕ) → v ≡ placeRule f n (bankCount f)
-    → (v ≡ Good → BankLed f n) → (v ≡ Good → s ≡ part f (tablePlace f n) 34) → bankAnswer v s ≡ bankRead f n
+    → (v ≡ Good → BankLed f n) → s ≡ bytesAnswer v (part f (tablePlace f n) 34) → bankAnswer v s ≡ bankRead f n
 unfolding bankRead
-bank-read f n v s e led h = bank-same v s _ (λ g. h g ∙ ap (λ (p : ℕ). part f p 34) (led g .1)) ∙ rw e
+bank-read f n v s e led h = bank-same v s _ (λ g. bytes-good v s _ h g ∙ ap (λ (p : ℕ). part f p 34) (led g .1)) ∙ rw e
 
 pub bank-read-once : (f : List ℕ) (n : ℕ) (v : Verdict) (s : List ℕ) → v ≡ bankOnceRule f n
-    → (v ≡ Good → s ≡ part f (tablePlace f n) 34) → bankAnswer v s ≡ bankOnce f n
+    → s ≡ bytesAnswer v (part f (tablePlace f n) 34) → bankAnswer v s ≡ bankOnce f n
 unfolding bankOnce
-bank-read-once f n v s e h = bank-same v s _ h ∙ rw e
+bank-read-once f n v s e h = bank-same v s _ (bytes-good v s _ h) ∙ rw e

@@ -14,7 +14,7 @@ use Rattle.channel_reader.specs.Reading.{channelAnswer}
 use Rattle.channel_reader.specs.declared.ChannelRead.{ChannelRead}
 use Rattle.layout.specs.Places.{contactCount, channelCount, bankCount, contactPlace, channelPlace, offsetPlace}
 use Rattle.layout.specs.Banks.{offsetAt, offsetTarget, bankHead}
-use Rattle.validation.specs.File.{contactAt, channelAt}
+use Rattle.file_rule.specs.File.{contactAt, channelAt}
 use Rattle.codeplug.specs.Read.{bankAnswer, entriesAnswer}
 use Rattle.codeplug.specs.declared.BankRead.{BankRead}
 

@@ -12,7 +12,7 @@ use Rattle.channel_reader.specs.Reading.{channelAnswer}
 use Rattle.channel_reader.specs.declared.ChannelRead.{ChannelRead}
 use Rattle.layout.specs.Places.{contactCount, channelCount, bankCount, contactPlace, channelPlace, countsOf}
 use Rattle.layout.specs.Banks.{bankPlace, entryCount}
-use Rattle.validation.specs.File.{fileRule}
+use Rattle.file_rule.specs.File.{fileRule}
 use Rattle.codeplug.specs.declared.Header.{Header}
 use Rattle.codeplug.specs.declared.HeaderRead.{HeaderRead}
 use Rattle.codeplug.specs.declared.Bank.{Bank}
@@ -39,6 +39,11 @@ unfoldable pub headerRead : List ℕ → HeaderRead
 headerRead f = headerAnswer (fileRule f) f
 
 -- ---- record n of a file
+
+-- the record's bytes beside its verdict: none beside a refusal
+unfoldable pub bytesAnswer : Verdict → List ℕ → List ℕ
+bytesAnswer Good s = s
+bytesAnswer (Refused n p) s = []
 
 -- the file's refusal, then 33 where there is no place n below the count
 unfoldable pub placeRule : List ℕ → ℕ → ℕ → Verdict

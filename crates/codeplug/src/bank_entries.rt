@@ -4,10 +4,10 @@ use entries::EntryStep;
 use fields::rule::Verdict;
 use format::sizes::BANK_HEAD_SIZE;
 use format::sizes::ENTRY_SIZE;
-use layout::banks::entry_count;
-use layout::banks::offset_leads;
 use layout::places::bank_count;
+use layout::places::entry_count;
 use layout::places::lend;
+use layout::places::offset_leads;
 use layout::places::offset_place;
 ghost use mathlib.Core.Path.{_≡_};
 ghost use Prim.Native.Nat.{_<_, _^_};
@@ -15,7 +15,7 @@ ghost use Rattle.codeplug.specs.Read.{entriesAnswer, entriesRead, entryR
 ghost use Rattle.layout.specs.Places.{bankCount};
 
 // The bytes of a bank's entries, none beside a refusal.
-pub(crate) fn entries_of(verdict: Verdict, f: &[u8], p: usize) -> &[u8]
+pub fn entries_of(verdict: Verdict, f: &[u8], p: usize) -> &[u8]
     requires { ⌜ p < 2 ^ 50 ⌝ }
     ensures { λ r. ⌜ now r ≡ entriesAnswer verdict (now (f .entry)) p ⌝ }
 {

@@ -1,24 +1,25 @@
-// The bytes of record n beside its verdict: where that is a refusal, they do not matter.
+// The bytes of record n beside its verdict; none beside a refusal.
 use fields::rule::Verdict;
 use format::sizes::BANK_HEAD_SIZE;
 use format::sizes::CHANNEL_SIZE;
 use format::sizes::CONTACT_SIZE;
-use layout::banks::offset_leads;
 use layout::places::channel_place;
 use layout::places::contact_place;
 use layout::places::lend;
+use layout::places::offset_leads;
 use layout::places::offset_place;
 ghost use mathlib.Core.Path.{_≡_};
 ghost use Prim.Native.Nat.{_≤_};
 ghost use lib.ListN.{length};
 ghost use Rattle.fields.specs.Bytes.{part};
 ghost use Rattle.layout.specs.Places.{contactPlace, channelPlace};
+ghost use Rattle.codeplug.specs.Read.{bytesAnswer};
 ghost use Rattle.codeplug.specs.Once.{tablePlace};
 ghost use Rattle.codeplug.specs.There.{ContactThere, ChannelThere, BankThere};
 
 pub fn contact_bytes(f: &[u8], n: usize, v: Verdict) -> &[u8]
     requires { ⌜ (v ≡ Verdict.Good → ContactThere (now f) n) ⌝ }
-    ensures { λ r. ⌜ (v ≡ Verdict.Good → (now r ≡ part (now (f .entry)) (contactPlace n) 39) × (39 ≤ length (now r))) ⌝ }
+    ensures { λ r. ⌜ (now r ≡ bytesAnswer v (part (now (f .entry)) (contactPlace n) 39)) × (v ≡ Verdict.Good → 39 ≤ length (now r)) ⌝ }
 {
     if let Verdict::Refused(_, _) = v {
         return &f[..0];
@@ -28,7 +29,7 @@ pub fn contact_bytes(f: &[u8], n: usize, v: Verdict) -> &[u8]
 
 pub fn channel_bytes(f: &[u8], n: usize, v: Verdict) -> &[u8]
     requires { ⌜ (v ≡ Verdict.Good → ChannelThere (now f) n) ⌝ }
-    ensures { λ r. ⌜ (v ≡ Verdict.Good → (now r ≡ part (now (f .entry)) (channelPlace (now (f .entry)) n) 90) × (length (now r) ≡ 90)) ⌝ }
+    ensures { λ r. ⌜ (now r ≡ bytesAnswer v (part (now (f .entry)) (channelPlace (now (f .entry)) n) 90)) × (v ≡ Verdict.Good → length (now r) ≡ 90) ⌝ }
 {
     if let Verdict::Refused(_, _) = v {
         return &f[..0];
@@ -39,7 +40,7 @@ pub fn channel_bytes(f: &[u8], n: usize, v: Verdict) -> &[u8]
 // A bank's name and entry count, where the offset table leads.
 pub fn bank_bytes(f: &[u8], n: usize, v: Verdict) -> &[u8]
     requires { ⌜ (v ≡ Verdict.Good → BankThere (now f) n) ⌝ }
-    ensures { λ r. ⌜ (v ≡ Verdict.Good → (now r ≡ part (now (f .entry)) (tablePlace (now (f .entry)) n) 34) × (34 ≤ length (now r))) ⌝ }
+    ensures { λ r. ⌜ (now r ≡ bytesAnswer v (part (now (f .entry)) (tablePlace (now (f .entry)) n) 34)) × (v ≡ Verdict.Good → 34 ≤ length (now r)) ⌝ }
 {
     if let Verdict::Refused(_, _) = v {
         return &f[..0];

@@ -1,7 +1,6 @@
 // The codeplug file's parts, read (document 01, "The file").
 pub mod bank_entries; // bank_entries.rt: the entries of bank n
 pub mod bytes; // bytes.rt: the bytes of record n
-pub mod once; // once.rt: records of a file that was judged before
 pub mod read; // read.rt: the header, contact n, channel n and bank n of a file
 
 use fields::rule::Verdict;

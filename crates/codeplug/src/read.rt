@@ -24,8 +24,8 @@ use validation::judge::verdict_on;
 ghost use mathlib.Core.Path.{_≡_};
 ghost use Prim.Native.Nat.{_≤_, _<_};
 ghost use lib.ListN.{length};
-ghost use Rattle.validation.specs.File.{fileRule};
-ghost use Rattle.codeplug.specs.Read.{headerOf, blankHeader, headerRead, placeRule, contactRead, channelRead, bankOf, blankBank, bankAnswer, bankRead};
+ghost use Rattle.file_rule.specs.File.{fileRule};
+ghost use Rattle.codeplug.specs.Read.{headerOf, blankHeader, headerAnswer, headerRead, placeRule, contactRead, channelRead, bankOf, blankBank, bankAnswer, bankRead};
 ghost use Rattle.codeplug.specs.There.{ContactThere, ChannelThere, BankLed};
 ghost use Rattle.layout.specs.Places.{contactCount, channelCount, bankCount};
 
@@ -42,19 +42,38 @@ fn header_of(f: &[u8]) -> Header
     }
 }
 
+// The counts beside a refusal.
+pub const NO_COUNTS: Counts = Counts {
+    contacts: 0,
+    channels: 0,
+    banks: 0,
+};
+
 fn blank_header() -> Header
     ensures { λ r. ⌜ r ≡ blankHeader ⌝ }
 {
-    let counts = Counts {
-        contacts: 0,
-        channels: 0,
-        banks: 0,
-    };
     Header {
         author: [0u8; 32],
         description: [0u8; 32],
         timestamp: 0,
-        counts,
+        counts: NO_COUNTS,
+    }
+}
+
+// The answer for a verdict on a file; a good verdict comes only with the header's 88 bytes.
+pub fn header_answer(verdict: Verdict, f: &[u8]) -> HeaderRead
+    requires { ⌜ (verdict ≡ Verdict.Good → 88 ≤ length (now f)) ⌝ }
+    ensures { λ r. ⌜ r ≡ headerAnswer verdict (now (f .entry)) ⌝ }
+{
+    match verdict {
+        Verdict::Good => HeaderRead {
+            verdict: Verdict::Good,
+            header: header_of(f),
+        },
+        Verdict::Refused(n, p) => HeaderRead {
+            verdict: Verdict::Refused(n, p),
+            header: blank_header(),
+        },
     }
 }
 
@@ -68,16 +87,7 @@ pub fn header_verdict(f: &[u8]) -> Verdict
 pub fn header(f: &[u8]) -> HeaderRead
     ensures { λ r. ⌜ r ≡ headerRead (now (f .entry)) ⌝ }
 {
-    match verdict_on(f) {
-        Verdict::Good => HeaderRead {
-            verdict: Verdict::Good,
-            header: header_of(f),
-        },
-        Verdict::Refused(n, p) => HeaderRead {
-            verdict: Verdict::Refused(n, p),
-            header: blank_header(),
-        },
-    }
+    header_answer(header_verdict(f), f)
 }
 
 // The file's refusal, then 33 unless n is below the count.
@@ -97,7 +107,7 @@ pub fn contact(f: &[u8], n: usize) -> ContactRead
     ensures { λ r. ⌜ r ≡ contactRead (now (f .entry)) n ⌝ }
 {
     let verdict = contact_verdict(f, n);
-    contact::read::answer(verdict, contact_bytes(f, n, verdict))
+    contact_reader::answer(verdict, contact_bytes(f, n, verdict))
 }
 
 pub fn channel_verdict(f: &[u8], n: usize) -> Verdict
@@ -133,7 +143,7 @@ fn blank_bank() -> Bank
 }
 
 // The answer for a verdict on a bank's bytes; a good verdict comes only with the first 34 of them.
-pub(crate) fn bank_answer(verdict: Verdict, s: &[u8]) -> BankRead
+pub fn bank_answer(verdict: Verdict, s: &[u8]) -> BankRead
     requires { ⌜ (verdict ≡ Verdict.Good → 34 ≤ length (now s)) ⌝ }
     ensures { λ r. ⌜ r ≡ bankAnswer verdict (now (s .entry)) ⌝ }
 {

@@ -1,7 +1,7 @@
 -- Contacts (document 01, "The file"): name at 0, mode at 32 (1 DMR, 2 M17). M17: a six-byte address at 33. DMR: id at 33 (4 bytes,
 -- any), settings at 37, pad at 38 (zero).
-use Prim.Native.Nat.{ℕ, _+_, _*_, _/_, _%_}
-use mathlib.Core.Bool.{Bool, true, false, _&&_, _||_, cond}
+use Prim.Native.Nat.{ℕ, _+_}
+use mathlib.Core.Bool.{Bool, false, _||_, cond}
 use mathlib.Core.List.{List, [], _∷_, _++_}
 use lib.ListN.{length, getD}
 use lib.Dec.{leb, eqb}
@@ -14,7 +14,6 @@ use Rattle.bits.specs.Packed.{choiceOf, choiceByte, choiceOk, choiceGood}
 use Rattle.bits.specs.declared.Choice.{Choice}
 use Rattle.m17.specs.Address.{addressOk, addressFor, addressNumber, addressGood}
 use Rattle.contact.specs.declared.Settings.{Settings}
-use Rattle.contact.specs.declared.DmrContact.{DmrContact}
 use Rattle.contact.specs.declared.ContactInfo.{ContactInfo}
 use Rattle.contact.specs.declared.ContactInfo.the-variants.{M17, Dmr}
 use Rattle.contact.specs.declared.Contact.{Contact}

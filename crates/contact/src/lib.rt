@@ -1,9 +1,5 @@
-// Contact records of 39 bytes: judged, read and written (document 01, "The file").
-pub mod judge; // judge.rt: the first bad field of a contact
-pub mod read; // read.rt: a contact's bytes to its value
+// Contact records of 39 bytes: their types and the settings byte (document 01, "The file").
 pub mod settings_byte; // settings_byte.rt: the settings byte of a DMR contact
-pub mod whole; // whole.rt: whether a whole contact is good, without a branch
-pub mod write; // write.rt: a contact's value to its bytes
 
 use fields::rule::Verdict;
 use m17::Address;

@@ -10,7 +10,7 @@ use Rattle.fields.specs.Rule.{_then_, unless}
 use Rattle.fields.specs.declared.rule.Verdict.{Verdict}
 use Rattle.fields.specs.declared.rule.Verdict.the-variants.{Good, Refused}
 use Rattle.fields.proofs.Laws.{AllBytes, then-good, then-assoc, unless-good}
-use Rattle.validation.specs.File.{fileRule}
+use Rattle.file_rule.specs.File.{fileRule}
 use Rattle.plug.specs.Plug.{plugOf}
 use Rattle.plug.specs.declared.Kind.{Kind}
 use Rattle.plug.specs.Kinds.{recordLength}
@@ -19,8 +19,8 @@ use Rattle.edits.specs.Result.{result}
 use Rattle.edits.specs.Foretold.{resultRule, resultLength}
 use Rattle.edits.specs.Setting.{refusesKnown}
 use Rattle.edits.proofs.ResultLaws.{result-judged}
-use Rattle.edit_check.proofs.LengthLaws.{result-long}
-use Rattle.edit_check.proofs.VerdictLaws.{first-bad, first-rest}
+use Rattle.edit_result.proofs.LengthLaws.{result-long}
+use Rattle.edit_result.proofs.VerdictLaws.{first-bad, first-rest}
 
 -- the four tests before the result is read
 abbrev pub earlyRule : Kind → ℕ → ℕ → List ℕ → List ℕ → Verdict

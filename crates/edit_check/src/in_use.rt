@@ -1,30 +1,21 @@
 // Whether a contact or a channel of an accepted file is in use (35).
-use channel::ContactIndex;
 use channel::values::named_contact;
 use fields::numbers::le16;
 use format::sizes::BANK_HEAD_SIZE;
 use format::sizes::CHANNEL_SIZE;
-use layout::banks::entry_count;
-use layout::banks::next_bank;
 use layout::places::bank_count;
 use layout::places::banks_place;
 use layout::places::channel_count;
 use layout::places::channel_place;
+use layout::places::entry_count;
 use layout::places::lend;
+use layout::places::next_bank;
 use plug::Kind;
+use plug::is_index;
 ghost use mathlib.Core.Path.{_≡_};
 ghost use Prim.Native.Nat.{_+_, _<_, _^_};
 ghost use Rattle.plug.specs.Plug.{plugOf, indexesAt};
-ghost use Rattle.plug.specs.EditRules.{isIndex, someNames, holdsChannel, someHolds, inUse};
-
-pub(crate) fn is_index(c: ContactIndex, i: usize) -> bool
-    ensures { λ r. ⌜ r ≡ isIndex i c ⌝ }
-{
-    match c {
-        ContactIndex::Nobody => false,
-        ContactIndex::Index(x) => x as usize == i,
-    }
-}
+ghost use Rattle.plug.specs.EditRules.{someNames, holdsChannel, someHolds, inUse};
 
 // Whether some DMR or M17 channel names contact i.
 pub fn some_names(f: &[u8], i: usize) -> bool

@@ -2,4 +2,3 @@
 pub mod in_use; // in_use.rt: whether a contact or channel is in use (35)
 pub mod places; // places.rt: the places and counts of an edit (33, 34)
 pub mod refusal; // refusal.rt: what refuses an edit (32 to 36)
-pub mod result; // result.rt: what reading the result of an edit gives, and its length

@@ -5,10 +5,9 @@ use mathlib.Core.Bool.{true}
 use mathlib.Core.List.{List, [], _∷_, _++_, map, append-assoc, append-nil}
 use native.Mathlib.Omega.{arith}
 use lib.ListN.{length, take, drop, getD, length-append, length-drop, length-map, take-append-drop}
-use lib.Seq.{take-at, drop-at, split-at, length-take-le}
+use lib.Seq.{split-at, length-take-le}
 use Rattle.fields.specs.Bytes.{over, littleBytes}
-use Rattle.fields.specs.declared.rule.Verdict.the-variants.{Good}
-use Rattle.fields.proofs.Laws.{AllBytes, length-littleBytes}
+use Rattle.fields.proofs.Laws.{length-littleBytes}
 use Rattle.moves.specs.Cut.{cut}
 use Rattle.moves.proofs.SeamLaws.{over-seam, cut-seam}
 use Rattle.layout.specs.Places.{contactCount, channelCount, bankCount, contactPlace, channelPlace, banksPlace}

@@ -5,13 +5,12 @@ use mathlib.Core.Bool.{true}
 use mathlib.Core.List.{List, [], _∷_, _++_, append-assoc}
 use native.Mathlib.Omega.{arith}
 use lib.ListN.{length, take, drop, getD, length-append, length-drop, take-append-drop}
-use lib.Seq.{take-at, drop-at, length-take-le, drop-cons}
+use lib.Seq.{drop-at, length-take-le, drop-cons}
 use lib.Dec.{leb, ltb}
 use borrow.Author.Tests.{leb-true, ltb-true}
 use Rattle.bits.proofs.Laws.{and-right}
 use Rattle.fields.specs.Bytes.{over, little, littleBytes, zeros}
-use Rattle.fields.specs.declared.rule.Verdict.the-variants.{Good}
-use Rattle.fields.proofs.Laws.{AllBytes, length-littleBytes}
+use Rattle.fields.proofs.Laws.{length-littleBytes}
 use Rattle.layout.specs.Places.{bankCount, offsetPlace, banksPlace}
 use Rattle.layout.specs.Banks.{entryCount, bankPlace}
 use Rattle.moves.specs.Cut.{cut}

@@ -1,19 +1,18 @@
 -- Laws of plans: each kind's plan makes its result, and its places stand where the plan needs them.
-use Prim.Native.Nat.{ℕ, zero, suc, _+_, _*_, _-_, _%_, _^_, _≤_, _<_}
+use Prim.Native.Nat.{ℕ, suc, _+_, _*_, _-_, _%_, _≤_, _<_}
 use mathlib.Core.Path.{_≡_, refl, ap, sym}
 use mathlib.Core.Bool.{Bool, true, false, _&&_, cond}
 use mathlib.Core.List.{List, [], _∷_}
 use native.Mathlib.Omega.{arith}
 use lib.ListN.{length, getD}
 use lib.Dec.{leb, ltb, eqb}
-use borrow.Author.Tests.{leb-true, ltb-true, ltb-false, eqb-true}
+use borrow.Author.Tests.{leb-true, ltb-true, eqb-true}
 use Rattle.fields.specs.Bytes.{num}
-use Rattle.fields.specs.declared.rule.Verdict.the-variants.{Good}
 use Rattle.fields.proofs.Laws.{AllBytes, num-suc}
 use Rattle.bits.proofs.Laws.{and-right}
 use Rattle.layout.specs.Places.{contactCount, channelCount, bankCount, contactPlace, channelPlace, offsetPlace, banksPlace}
-use Rattle.layout.specs.Banks.{entryCount, offsetTarget, bankPlace}
-use Rattle.layout.proofs.Laws.{bank-leads, bank-inside, bank-first, bank-next, banks-end-is, contactCount-lt, channelCount-lt, bankCount-lt, entryCount-lt}
+use Rattle.layout.specs.Banks.{entryCount, bankPlace}
+use Rattle.layout.proofs.Laws.{bank-leads, bank-inside, bank-next, banks-end-is, contactCount-lt, channelCount-lt, bankCount-lt, entryCount-lt}
 use Rattle.plug.specs.Plug.{plugOf}
 use Rattle.plug.specs.EditRules.{placeOk, entriesIn}
 use Rattle.plug.specs.declared.Kind.{Kind}

@@ -3,13 +3,13 @@ use format::sizes::BANK_HEAD_SIZE;
 use format::sizes::CHANNEL_SIZE;
 use format::sizes::CONTACT_SIZE;
 use format::sizes::ENTRY_SIZE;
-use layout::banks::entry_count;
 use layout::places::bank_count;
 use layout::places::banks_place;
 use layout::places::channel_count;
 use layout::places::channel_place;
 use layout::places::contact_count;
 use layout::places::contact_place;
+use layout::places::entry_count;
 use layout::places::offset_place;
 use plan::Block;
 use plan::Counted;
@@ -136,7 +136,7 @@ fn bank_in(f: &[u8], i: usize) -> Plan
     let count = (bank_count(f) + 1) as u16;
     let place = offset_place(f, i);
     Plan::AddBank(
-        table_from(f, i, Growth::More(34)),
+        table_from(f, i, Growth::More(BANK_HEAD_SIZE as u32)),
         at,
         offset,
         Counted {

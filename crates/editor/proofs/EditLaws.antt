@@ -14,8 +14,8 @@ use Rattle.fields.specs.Rule.{_then_, unless}
 use Rattle.fields.specs.declared.rule.Verdict.{Verdict}
 use Rattle.fields.specs.declared.rule.Verdict.the-variants.{Good, Refused}
 use Rattle.fields.proofs.Laws.{AllBytes, bytes-take, then-good, good-then, then-refused, unless-good, part-part, littleBytes-little}
-use Rattle.validation.specs.File.{fileRule}
-use Rattle.validation.proofs.Laws.{file-good}
+use Rattle.file_rule.specs.File.{fileRule}
+use Rattle.file_rule.proofs.Laws.{file-good}
 use Rattle.journal.specs.Entry.{Entries, whole, broken, entriesOf, entrySize, historyBytes}
 use Rattle.journal.specs.History.{fittingRun, recorded}
 use Rattle.journal.specs.Scan.{numberOfEntries}

@@ -35,7 +35,8 @@ fn commit(
     bytes: &[u8],
 ) -> Answer
     requires { ⌜ Committable (now room) len (now history) used plan s (now bytes) ⌝ }
-    ensures { λ r. ⌜ left r (now (room .exit)) (now (history .exit)) ≡ committed (planned plan (now (bytes .entry)) (take len (now (room .entry)))) (lent (now (room .entry)) len (now (history .entry)) used) ⌝ }
+    ensures { λ r. ⌜ left r (now (room .exit)) (now (history .exit))
+        ≡ committed (planned plan (now (bytes .entry)) (take len (now (room .entry)))) (lent (now (room .entry)) len (now (history .entry)) used) ⌝ }
 {
     let from = s.place;
     let taken = s.taken;
@@ -82,7 +83,8 @@ pub fn edit(
     second: usize,
     bytes: &[u8],
 ) -> Answer
-    ensures { λ r. ⌜ left r (now (room .exit)) (now (history .exit)) ≡ editStep editing (asked kind first second (now (bytes .entry))) (lent (now (room .entry)) len (now (history .entry)) used) ⌝ }
+    ensures { λ r. ⌜ left r (now (room .exit)) (now (history .exit)) ≡ editStep editing
+        (asked kind first second (now (bytes .entry))) (lent (now (room .entry)) len (now (history .entry)) used) ⌝ }
 {
     if let Verdict::Refused(n, p) = standing(room, len, history, used) {
         return Answer::Refused(n, p);

@@ -23,8 +23,8 @@ use Rattle.channel.specs.declared.ContactIndex.the-variants.{Nobody, Index}
 use Rattle.channel.proofs.Laws.{GoodChannel, by-mode, good-named, good-channel, good-length, channel-good-by}
 use Rattle.layout.specs.Places.{contactCount, channelCount, contactPlace, channelPlace, offsetPlace}
 use Rattle.layout.specs.Header.{identityRule}
-use Rattle.validation.specs.File.{namesContact, indexOk, contactsRule, channelsRule, fileRule}
-use Rattle.validation.proofs.Laws.{file-good, file-header, contact-there, contact-whole, channel-there, channel-whole}
+use Rattle.file_rule.specs.File.{namesContact, indexOk, contactsRule, channelsRule, fileRule}
+use Rattle.file_rule.proofs.Laws.{file-good, file-header, contact-there, contact-whole, channel-there, channel-whole}
 use Rattle.plug.specs.Plug.{Plug, plugBytes, plugOf}
 use Rattle.plug.proofs.Blocks.{Every}
 use Rattle.plug.specs.Laid.{Laid}

@@ -12,7 +12,7 @@ use Rattle.fields.specs.Rule.{_then_, unless}
 use Rattle.fields.specs.declared.rule.Verdict.the-variants.{Good}
 use Rattle.fields.proofs.Laws.{then-of-good, unless-passes}
 use Rattle.layout.specs.Banks.{bankPlace}
-use Rattle.validation.specs.File.{fileRule}
+use Rattle.file_rule.specs.File.{fileRule}
 use Rattle.plug.specs.Plug.{Bank, Plug, bankBytes, plugBytes}
 use Rattle.plug.specs.Edits.{insertAt, removeAt, replaceAt, withBanks}
 use Rattle.plug.proofs.Blocks.{Every, every-take, every-drop, banksBytes, banksBytes-cons, banksBytes-append, banksBytes-split, length-bankBytes}

@@ -15,7 +15,7 @@ use Rattle.fields.specs.declared.rule.Verdict.the-variants.{Good}
 use Rattle.fields.proofs.Laws.{then-of-good, unless-passes, AllBytes}
 use Rattle.channel.specs.Rule.{channelRule}
 use Rattle.layout.specs.Places.{channelPlace}
-use Rattle.validation.specs.File.{indexOk, fileRule}
+use Rattle.file_rule.specs.File.{indexOk, fileRule}
 use Rattle.plug.specs.Plug.{Bank, Plug, bankBytes, plugBytes}
 use Rattle.plug.specs.Edits.{insertAt, removeAt, replaceAt, raised, lowered, moveEntries, withChannels, withBanks, moveChannels}
 use Rattle.plug.specs.EditRules.{someHolds}

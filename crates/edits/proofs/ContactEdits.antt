@@ -17,7 +17,7 @@ use Rattle.channel.specs.Rule.{namedContact}
 use Rattle.channel.specs.declared.ContactIndex.{ContactIndex}
 use Rattle.channel.specs.declared.ContactIndex.the-variants.{Nobody, Index}
 use Rattle.layout.specs.Places.{channelCount, contactPlace, channelPlace}
-use Rattle.validation.specs.File.{fileRule}
+use Rattle.file_rule.specs.File.{fileRule}
 use Rattle.plug.specs.Plug.{Plug, plugBytes}
 use Rattle.plug.specs.Edits.{insertAt, removeAt, replaceAt, raised, lowered, moveContact, withContacts, withChannels, moveContacts}
 use Rattle.plug.specs.EditRules.{isIndex, someNames}

@@ -15,7 +15,7 @@ use Rattle.fields.specs.Rule.{_then_, unless}
 use Rattle.fields.specs.declared.rule.Verdict.the-variants.{Good}
 use Rattle.fields.proofs.Laws.{part-left, part-right, part-part, then-good, then-of-good, unless-passes, field-good, field-inside, field-passes, AllBytes, bytes-append, bytes-take}
 use Rattle.layout.specs.Header.{identityRule}
-use Rattle.validation.specs.File.{fileRule}
+use Rattle.file_rule.specs.File.{fileRule}
 use Rattle.plug.specs.Plug.{Plug, plugBytes}
 use Rattle.plug.specs.Edits.{withPreamble}
 use Rattle.plug.proofs.Shape.{Shaped, length-plug}

@@ -17,7 +17,7 @@ use Rattle.fields.proofs.Laws.{part-left, part-part, length-over, part-over, dr
 use Rattle.fields.proofs.Laws.{bytes-over, AllBytes, then-good, then-of-good, unless-passes, field-inside}
 use Rattle.bits.specs.Packed.{halvesOf}
 use Rattle.bits.proofs.Laws.{and-left, and-right}
-use Rattle.channel.specs.Values.{contactIndexOf, slotOk, operationOk, encryptionOk}
+use Rattle.channel.specs.Values.{contactIndexPlace, contactIndexOf, slotOk, operationOk, encryptionOk}
 use Rattle.channel.specs.Rule.{headRule, textsRule, locationRule, dmrRule, m17Rule, infoRule, channelRule, namedContact}
 use Rattle.channel.specs.declared.ContactIndex.the-variants.{Index}
 use Rattle.channel.proofs.Laws.{GoodChannel, GoodDmr, GoodM17, by-mode, info-dmr, info-m17, channel-good}
@@ -227,10 +227,10 @@ module _ (s : List ℕ) (p : ℕ) (g : GoodChannel s) (l : 90 ≤ length s) wher
       ∙ rw (a .0, b .0, d .0) (field-inside (length s) p 88 2 9 named (omega arith))
 
   pub channel-unless : (named : Bool) → (getD s 0 0 ≡ 0 → named ≡ true)
-      → channelRule s p named ≡ unless named 9 (p + (86 + getD s 0 0))
+      → channelRule s p named ≡ unless named 9 (p + contactIndexPlace (getD s 0 0))
   channel-unless named f =
       up-to-info named
-      ∙ by-mode (infoRule s p named ≡ unless named 9 (p + (86 + getD s 0 0))) (getD s 0 0)
-      (λ e. rw (f e) (info-passes ∙ sym (unless-passes true 9 (p + (86 + getD s 0 0)) refl)))
+      ∙ by-mode (infoRule s p named ≡ unless named 9 (p + contactIndexPlace (getD s 0 0))) (getD s 0 0)
+      (λ e. rw (f e) (info-passes ∙ sym (unless-passes true 9 (p + contactIndexPlace (getD s 0 0)) refl)))
       (λ e. rw e (dmr-unless named e))
       (λ e. let d : getD s 0 0 ≡ 2 = omega (arith, g .mode) in rw d (m17-unless named e))

@@ -2,20 +2,19 @@
 -- edit whose record is bytes, which is every one that code can pass.
 use Prim.Native.Nat.{ℕ, _≤_, _<_}
 use mathlib.Core.Path.{_≡_}
-use mathlib.Core.Bool.{true, false, not}
+use mathlib.Core.Bool.{false}
 use mathlib.Core.Logic.{_⊎_}
 use mathlib.Core.List.{List, _++_}
 use native.Mathlib.Omega.{arith}
 use lib.ListN.{length}
 use borrow.Author.Tests.{leb-true, eqb-true, not-true}
 use Rattle.fields.proofs.Laws.{AllBytes, then-good, unless-good}
-use Rattle.fields.specs.declared.rule.Verdict.{Verdict}
 use Rattle.fields.specs.declared.rule.Verdict.the-variants.{Good, Refused}
-use Rattle.validation.specs.File.{fileRule}
-use Rattle.validation.proofs.Laws.{file-good}
+use Rattle.file_rule.specs.File.{fileRule}
+use Rattle.file_rule.proofs.Laws.{file-good}
 use Rattle.journal.specs.Setting.{Call, edit, undo}
-use Rattle.journal.specs.Machine.{State, opened, answers, final, fileOf, historyOf, buffersRule, step, next}
-use Rattle.journal.specs.Book.{Book, book, bookAnswers, bookFile, bookFinal, fileAfter, anyKept, withoutLast}
+use Rattle.journal.specs.Machine.{State, fileOf, historyOf, buffersRule, step, next}
+use Rattle.journal.specs.Book.{Book, fileAfter, anyKept, withoutLast}
 use Rattle.journal.specs.Promise.{EveryEdit}
 use Rattle.journal.proofs.Promise.{Laws, promise, stateAfter, bookAfter, entries-after, stands-after, edit-refusals, undo-refusals, undo-refused, undo-takes-back}
 use Rattle.journal.proofs.StepLaws.{newestFirst}
@@ -24,10 +23,9 @@ use Rattle.journal.specs.Change.{entryOf}
 use Rattle.journal.specs.declared.answer.Answer.the-variants as answer
 use Rattle.plug.specs.declared.KindRead.{KindRead}
 use Rattle.plug.specs.declared.KindRead.the-variants.{Known, NoKind}
-use Rattle.plug.specs.Kinds.{kindOf, recordLength}
+use Rattle.plug.specs.Kinds.{kindOf}
 use Rattle.plug.specs.Plug.{plugOf, plugBytes}
 use Rattle.plug.proofs.FileOf.{file-of-plug}
-use Rattle.edits.specs.Result.{result}
 use Rattle.edits.proofs.Accepted.{laid}
 use Rattle.edits.specs.Setting.{Asked, refusesKnown, refusesKind, refuses, appliedKind, applied, editing}
 use Rattle.edits.specs.Demand.{OfBytes, Demand3}

@@ -10,7 +10,7 @@ use borrow.Author.Tests.{leb-true, ltb-true}
 use Rattle.fields.specs.declared.rule.Verdict.the-variants.{Good}
 use Rattle.fields.proofs.Laws.{AllBytes}
 use Rattle.bits.proofs.Laws.{and-right}
-use Rattle.validation.specs.File.{fileRule}
+use Rattle.file_rule.specs.File.{fileRule}
 use Rattle.plug.specs.Plug.{Plug, plugBytes, plugOf}
 use Rattle.plug.specs.declared.Kind.{Kind}
 use Rattle.plug.specs.declared.Kind.the-variants.{InsertContact, RemoveContact, ReplaceContact, InsertChannel, RemoveChannel, ReplaceChannel, InsertBank, RemoveBank, RenameBank, InsertEntry, RemoveEntry, SetHeader}

@@ -1,7 +1,7 @@
 -- What reading an edit's result gives, and its length, told without building it. No promise to a caller rests on these: that they are
--- `fileRule` and the length of the result is proved (proofs/ResultLaws.antt, LengthLaws.antt).
+-- `fileRule` and the length of the result is proved (proofs/ResultLaws.antt; edit_result, proofs/LengthLaws.antt).
 use Prim.Native.Nat.{ℕ, _+_, _*_, _-_}
-use mathlib.Core.Bool.{Bool, true, false, _&&_, _||_, not}
+use mathlib.Core.Bool.{_||_, not}
 use mathlib.Core.List.{List}
 use lib.ListN.{length, getD}
 use lib.Dec.{leb, ltb, eqb}
@@ -13,8 +13,9 @@ use Rattle.fields.specs.declared.rule.Verdict.the-variants.{Good}
 use Rattle.layout.specs.Places.{channelCount, contactPlace, channelPlace}
 use Rattle.layout.specs.Banks.{entryCount, bankPlace}
 use Rattle.contact.specs.Contact.{contactRule}
+use Rattle.channel.specs.Values.{contactIndexPlace}
 use Rattle.channel.specs.Rule.{channelRule, namedContact}
-use Rattle.validation.specs.File.{indexOk}
+use Rattle.file_rule.specs.File.{indexOk}
 use Rattle.plug.specs.EditRules.{isIndex}
 use Rattle.plug.specs.declared.Kind.{Kind}
 use Rattle.plug.specs.declared.Kind.the-variants.{InsertContact, RemoveContact, ReplaceContact, InsertChannel, RemoveChannel, ReplaceChannel, InsertBank, RemoveBank, RenameBank, InsertEntry, RemoveEntry, SetHeader}
@@ -23,9 +24,9 @@ use Rattle.plug.specs.declared.Kind.the-variants.{InsertContact, RemoveContact,
 unfoldable pub mayGrow : ℕ → List ℕ → Verdict
 mayGrow n f = unless (leb (length f + n) 1_048_576) 1 0
 
--- where the contact index of a channel at p stands: at 87 for DMR, at 88 for M17
+-- where the contact index of a channel at p stands
 unfoldable pub indexPlace : List ℕ → ℕ → ℕ
-indexPlace s p = p + (86 + getD s 0 0)
+indexPlace s p = p + contactIndexPlace (getD s 0 0)
 
 -- a channel at p that names contact i is of this mode
 unfoldable pub keepsMode : List ℕ → ℕ → ℕ → ℕ → Verdict
@@ -50,7 +51,7 @@ resultRule InsertEntry i j r f =
 resultRule RemoveEntry i j r f = Good
 resultRule SetHeader i j r f = unless (textOk (part r 0 32)) 5 10 then unless (textOk (part r 32 32)) 5 42
 
--- the length of an edit's result (proofs/LengthLaws.antt); a bank goes with its offset
+-- the length of an edit's result (edit_result, proofs/LengthLaws.antt); a bank goes with its offset
 abbrev pub resultLength : Kind → ℕ → List ℕ → ℕ
 resultLength InsertContact i f = length f + 39
 resultLength RemoveContact i f = length f - 39

@@ -7,8 +7,8 @@ use lib.ListN.{length}
 use lib.Dec.{leb, eqb}
 use Rattle.fields.specs.Rule.{_then_, unless}
 use Rattle.fields.specs.declared.rule.Verdict.{Verdict}
-use Rattle.fields.specs.declared.rule.Verdict.the-variants.{Good, Refused}
-use Rattle.validation.specs.File.{fileRule}
+use Rattle.fields.specs.declared.rule.Verdict.the-variants.{Refused}
+use Rattle.file_rule.specs.File.{fileRule}
 use Rattle.journal.specs.Setting.{Setting}
 use Rattle.plug.specs.Plug.{plugOf}
 use Rattle.plug.specs.declared.Kind.{Kind}

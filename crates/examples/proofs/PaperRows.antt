@@ -6,7 +6,6 @@ use mathlib.Core.List.{List, [], _∷_, _++_}
 use lib.ListN.{replicate}
 use Rattle.fields.specs.Bytes.{zeros}
 use Rattle.fields.specs.Rule.{fieldOf, unless, _then_}
-use Rattle.fields.specs.declared.rule.Verdict.{Verdict}
 use Rattle.fields.specs.declared.rule.Verdict.the-variants as verdict
 use Rattle.fields.specs.Bytes.{little, littleBytes}
 use Rattle.channel.specs.Rule.{fmRule}
@@ -22,14 +21,11 @@ use Rattle.plug.specs.Edits.{edited, insertAt, withBanks, withPreamble}
 use Rattle.edits.specs.Result.{result}
 use Rattle.edits.specs.Setting.{Asked, applied, appliedKind}
 use Rattle.m17.specs.Address.{encoding, decoding, addressOf, digitOf, firstForeign, foreign, endsInSpace, within, isCallsign, textFor, textUpTo, charOf}
-use Rattle.m17.specs.declared.Encoded.{Encoded}
 use Rattle.m17.specs.declared.Encoded.the-variants as encoded
-use Rattle.m17.specs.declared.Decoded.{Decoded}
 use Rattle.m17.specs.declared.Decoded.the-variants as decoded
 use Rattle.tones.specs.Tone.{toneOf, toneOk, toneIndex, frequencyOf, toneTable}
 use Rattle.tones.specs.declared.Tone.{Tone}
 use Rattle.tones.specs.declared.Tone.the-variants.{Enabled, Disabled}
-use Rattle.tones.specs.declared.Frequency.{Frequency}
 use Rattle.tones.specs.declared.Frequency.the-variants.{Tenths}
 
 -- a tone byte and what it means: the tone, and its frequency in tenths of a hertz

@@ -1,6 +1,6 @@
 -- What a call of edit or undo does to the two lent buffers (document 01, "The refusals, by number", "The twelve edits", "The history").
 use Prim.Native.Nat.{ℕ, _+_, _-_, max}
-use mathlib.Core.Bool.{Bool, _&&_, cond}
+use mathlib.Core.Bool.{Bool, _&&_}
 use mathlib.Core.List.{List, [], _∷_, _++_}
 use lib.ListN.{length, take, drop}
 use lib.Dec.{leb}

@@ -1,6 +1,5 @@
 -- How the scan of a history names what it finds. No promise to a caller rests on these.
 use Prim.Native.Nat.{ℕ, _-_}
-use mathlib.Core.List.{List}
 use lib.ListN.{length}
 use Rattle.journal.specs.Entry.{Entry, Front, front, none, Entries, whole, broken, historyBytes}
 use Rattle.journal.specs.History.{fittingRun}

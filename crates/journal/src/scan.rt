@@ -3,8 +3,8 @@ use varint::NumberRead;
 use varint::number_at;
 ghost use mathlib.Core.Path.{_≡_};
 ghost use Prim.Native.Nat.{_+_, _≤_};
-ghost use lib.ListN.{length, drop, take};
-ghost use Rattle.journal.specs.Entry.{frontOf, entriesOf, historyBytes, Entries};
+ghost use lib.ListN.{length, drop};
+ghost use Rattle.journal.specs.Entry.{frontOf, entriesOf, Entries};
 ghost use Rattle.journal.specs.Scan.{numberOfEntries, headOf, runOf};
 
 // Where an entry's parts stand: its place and lengths, its old bytes' place and the place after it.

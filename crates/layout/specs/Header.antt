@@ -1,6 +1,5 @@
 -- The header, 88 bytes (document 01, "The file").
 use Prim.Native.Nat.{ℕ}
-use mathlib.Core.Bool.{true}
 use mathlib.Core.List.{List}
 use lib.Dec.{eqb}
 use Rattle.fields.specs.Bytes.{part, num}

@@ -1,13 +1,17 @@
 // Counts, and where the parts of a file stand.
 use crate::Counts;
 use fields::numbers::le16;
+use fields::numbers::le32;
+use format::sizes::BANK_HEAD_SIZE;
 use format::sizes::CHANNEL_SIZE;
 use format::sizes::CONTACT_SIZE;
+use format::sizes::ENTRY_SIZE;
 use format::sizes::HEADER_SIZE;
 use format::sizes::OFFSET_SIZE;
 ghost use mathlib.Core.Path.{_≡_};
-ghost use Prim.Native.Nat.{_+_, _*_, _<_, _≤_, _^_};
+ghost use Prim.Native.Nat.{_+_, _*_, _<_, _^_};
 ghost use Rattle.fields.specs.Bytes.{part};
+ghost use Rattle.layout.specs.Banks.{entryCount, offsetTarget, nextBank};
 ghost use Rattle.layout.specs.Places.{contactCount, channelCount, bankCount, contactPlace, channelPlace, offsetPlace, banksPlace, countsOf};
 
 // The w bytes of f at p, fewer where f ends.
@@ -77,4 +81,26 @@ pub fn banks_place(f: &[u8]) -> usize
     ensures { λ r. ⌜ (r ≡ banksPlace (now (f .entry))) × (r < 2 ^ 25) ⌝ }
 {
     offset_place(f, bank_count(f))
+}
+
+pub fn entry_count(f: &[u8], p: usize) -> usize
+    requires { ⌜ p < 2 ^ 60 ⌝ }
+    ensures { λ r. ⌜ (r ≡ entryCount (now (f .entry)) p) × (r < 65536) ⌝ }
+{
+    le16(f, p + 32) as usize
+}
+
+// Where the offset at t leads.
+pub fn offset_leads(f: &[u8], t: usize) -> usize
+    requires { ⌜ t < 2 ^ 60 ⌝ }
+    ensures { λ r. ⌜ (r ≡ offsetTarget (now (f .entry)) t) × (r < 2 ^ 33) ⌝ }
+{
+    banks_place(f) + le32(f, t) as usize
+}
+
+pub fn next_bank(f: &[u8], p: usize) -> usize
+    requires { ⌜ p < 2 ^ 60 ⌝ }
+    ensures { λ r. ⌜ (r ≡ nextBank (now (f .entry)) p) × (r < p + 2 ^ 18) ⌝ }
+{
+    p + BANK_HEAD_SIZE + entry_count(f, p) * ENTRY_SIZE
 }

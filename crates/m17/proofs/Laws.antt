@@ -5,19 +5,16 @@ use mathlib.Core.Bool.{Bool, true, false, _&&_, _||_, cond, false≢true}
 use mathlib.Core.List.{List, [], _∷_, _++_, append-assoc, append-nil}
 use mathlib.Core.Logic.{_⊎_, inl, inr, ⊎-elim}
 use native.Mathlib.Omega.{arith}
-use native.Mathlib.Nat.{pow-suc, eq-or-lt-of-le, le-of-suc-le-suc, not-suc-le-zero, eq-zero-or-pos, pow-le-pow-right}
+use native.Mathlib.Nat.{pow-suc, le-of-suc-le-suc, not-suc-le-zero, eq-zero-or-pos, pow-le-pow-right}
 use native.Mathlib.Numerals.{add-one}
 use lib.ListN.{length, getD, take, drop, set, replicate, length-drop, take-append-drop}
 use lib.Seq.{drop-cons, take-suc-set, drop-set-lt, drop-drop, length-take-le, paste-suc}
-use lib.Dec.{T, leb, ltb, eqb, eqb→eq, leb→le}
-use borrow.Author.Tests.{le-leb, lt-leb, lt-ltb, le-ltb, eq-eqb, ne-eqb, ltb-true, ltb-false, leb-true, leb-false, eqb-true, eqb-false}
+use lib.Dec.{T, leb, eqb, eqb→eq, leb→le}
+use borrow.Author.Tests.{le-leb, lt-leb, lt-ltb, le-ltb, eq-eqb, ne-eqb, leb-true, leb-false, eqb-true, eqb-false}
 use Rattle.m17.specs.declared.Address.{Address}
 use Rattle.m17.specs.declared.Address.the-variants.{Callsign, Broadcast}
 use Rattle.m17.specs.declared.Encoded.the-variants as encoded
 use Rattle.m17.specs.declared.Decoded.the-variants as decoded
-use Rattle.m17.specs.declared.Sum.{Sum}
-use Rattle.m17.specs.declared.Sum.the-variants as sum
-use Rattle.fields.specs.Table.{Table}
 use Rattle.fields.proofs.TableLaws.{every, below}
 use Rattle.m17.specs.Address.{broadcast, decoding, decodedBy, decodedInto, within, digitOf, foreign, charOf, addressOf, firstForeign, endsInSpace, encoding, isCallsign, addressOk, textUpTo, textFor, addressNumber, addressFor, addressGood}
 
@@ -377,25 +374,6 @@ module _ (s : List ℕ) (some : 0 < length s) (few : length s ≤ 9) where
 
   pub encoding-number : length s ≤ firstForeign s → (getD s (length s - 1) 0 ≡ 32 → ⊥) → encoding s ≡ encoded.Number (addressOf s)
   encoding-number f e = encoding-solid f (ends-last s (length s - 1) (omega arith) ∙ ne-eqb (getD s (length s - 1) 0) 32 e)
-
--- what a sum says of its text
-
-abbrev pub summed : List ℕ → Sum
-summed s = cond (ltb (firstForeign s) (length s)) sum.Foreign (sum.Number (addressOf s))
-
-pub sum-foreign : (s : List ℕ) (r : Sum) → r ≡ summed s → r ≡ sum.Foreign → firstForeign s < length s
-sum-foreign s r e f = go (ltb (firstForeign s) (length s)) refl (sym f ∙ e)
-  where
-    go : (b : Bool) → ltb (firstForeign s) (length s) ≡ b → sum.Foreign ≡ cond b sum.Foreign (sum.Number (addressOf s)) → firstForeign s < length s
-    go true t e = ltb-true (firstForeign s) (length s) t
-    go false t e = let z : _≡_ {A = ℕ} 0 1 = cc in absurd (omega arith)
-
-pub sum-number : (s : List ℕ) (r : Sum) (n : ℕ) → r ≡ summed s → r ≡ sum.Number n → (length s ≤ firstForeign s) × (n ≡ addressOf s)
-sum-number s r n e f = go (ltb (firstForeign s) (length s)) refl (sym f ∙ e)
-  where
-    go : (b : Bool) → ltb (firstForeign s) (length s) ≡ b → sum.Number n ≡ cond b sum.Foreign (sum.Number (addressOf s)) → (length s ≤ firstForeign s) × (n ≡ addressOf s)
-    go true t e = let z : _≡_ {A = ℕ} 0 1 = cc in absurd (omega arith)
-    go false t e = (ltb-false (firstForeign s) (length s) t, cc)
 
 -- ---- the answers to a number, by what holds of it
 

@@ -9,7 +9,6 @@ use Rattle.layout.specs.Banks.{bankFrom}
 use Rattle.renumber.specs.Shift.{growthOf}
 use Rattle.plan.specs.declared.Counted.{Counted}
 use Rattle.plan.specs.declared.Table.{Table}
-use Rattle.plan.specs.declared.Block.{Block}
 use Rattle.plan.specs.declared.Plan.{Plan}
 use Rattle.plan.specs.declared.Plan.the-variants.{Replace, Contacts, Channels, Entries, AddBank, DropBank}
 

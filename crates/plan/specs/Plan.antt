@@ -8,7 +8,6 @@ use Rattle.renumber.specs.Shift.{shiftOf, growthOf}
 use Rattle.renumber.specs.Moved.{contactsFollow, entriesFollow, offsetsMoved}
 use Rattle.plan.specs.declared.Counted.{Counted}
 use Rattle.plan.specs.declared.Table.{Table}
-use Rattle.plan.specs.declared.Block.{Block}
 use Rattle.plan.specs.declared.Plan.{Plan}
 use Rattle.plan.specs.declared.Plan.the-variants.{Replace, Contacts, Channels, Entries, AddBank, DropBank}
 

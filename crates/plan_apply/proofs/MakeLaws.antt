@@ -4,30 +4,28 @@ use mathlib.Core.Path.{_≡_, refl, ap, sym, _∙_}
 use mathlib.Core.Bool.{Bool, true, false}
 use mathlib.Core.List.{List, [], _∷_, _++_, append-assoc}
 use native.Mathlib.Omega.{arith}
-use lib.ListN.{length, take, drop, length-append, length-drop, take-append-drop}
+use lib.ListN.{length, take, drop, length-append, take-append-drop}
 use lib.Seq.{length-take-le, take-append-le, drop-append-le, drop-append-add, drop-at, drop-drop}
 use lib.Dec.{leb}
 use borrow.Author.Tests.{leb-true, leb-false}
 use Rattle.fields.specs.Bytes.{part, over, zeros, littleBytes}
-use Rattle.fields.proofs.Laws.{AllBytes, bytes-take, length-over, length-zeros, zeros-append, length-littleBytes, over-zero, drop-zeros}
+use Rattle.fields.proofs.Laws.{AllBytes, bytes-take, length-over, length-zeros, zeros-append, length-littleBytes}
 use Rattle.moves.specs.Cut.{cut}
 use Rattle.moves.specs.Splice.{spliced}
 use Rattle.moves.proofs.Laws.{spliced-whole, spliced-of, spliced-content}
 use Rattle.journal.specs.Machine.{holding}
 use Rattle.journal.proofs.StepLaws.{take-holding, length-holding}
 use Rattle.layout.specs.Places.{channelCount, bankCount, channelPlace, banksPlace}
-use Rattle.layout.specs.Banks.{bankFrom}
 use Rattle.renumber.specs.declared.shift.Shift.{Shift}
 use Rattle.renumber.specs.Shift.{shiftOf, growthOf}
 use Rattle.renumber.specs.Moved.{channelsMoved, banksMoved, offsetsMoved, contactsFollow, entriesFollow}
-use Rattle.renumber.proofs.Laws.{length-channelsMoved, length-banksMoved, length-offsetsMoved}
 use Rattle.plan.specs.Plan.{counted, tableMoved, planned}
 use Rattle.plan.specs.declared.Counted.{Counted}
 use Rattle.plan.specs.declared.Table.{Table}
 use Rattle.plan.specs.declared.Block.{Block}
 use Rattle.plan.specs.declared.Plan.{Plan}
 use Rattle.plan.specs.declared.Plan.the-variants as plan
-use Rattle.plan.proofs.Laws.{length-cut, length-counted, length-tableMoved, length-contactsFollow, length-entriesFollow, banks-inside}
+use Rattle.plan.proofs.Laws.{length-cut, length-counted, length-tableMoved, length-contactsFollow, length-entriesFollow}
 use Rattle.plan.specs.Fits.{CountedFits, Fits}
 use Rattle.plan_apply.specs.Room.{HasRoom, CutHasRoom, PlanHasRoom}
 

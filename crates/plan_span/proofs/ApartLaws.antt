@@ -18,7 +18,7 @@ use Rattle.journal.specs.Span.{spanOf}
 use Rattle.journal.specs.declared.recording.Span.{Span}
 use Rattle.plug.specs.Edits.{raised, lowered}
 use Rattle.renumber.specs.Shift.{shiftOf}
-use Rattle.renumber.specs.Last.{Apart}
+use Rattle.renumber_last.specs.Last.{Apart}
 use Rattle.renumber.specs.declared.shift.Shift.{Shift}
 use Rattle.renumber.specs.declared.shift.Shift.the-variants.{Raise, Lower}
 use Rattle.plan.specs.declared.Counted.{Counted}

@@ -1,5 +1,5 @@
 -- Laws of a cut whose contact indexes or bank entries follow.
-use Prim.Native.Nat.{ℕ, zero, suc, _+_, _-_, _≤_}
+use Prim.Native.Nat.{ℕ, zero, suc, _+_, _≤_}
 use mathlib.Core.Path.{_≡_, ap}
 use mathlib.Core.Bool.{Bool, true, false, cond}
 use mathlib.Core.List.{List, map, _++_}
@@ -20,10 +20,10 @@ use Rattle.plug.specs.Edits.{moveContact, withIndexAt}
 use Rattle.plug.proofs.Blocks.{every-map, bytes-joined, bytes-blocks, bytes-pairs}
 use Rattle.renumber.specs.Shift.{shiftOf}
 use Rattle.renumber.specs.Moved.{channelsMoved, banksMoved, contactsFollow, entriesFollow}
-use Rattle.renumber.specs.Last.{Apart, LastMoved}
+use Rattle.renumber_last.specs.Last.{Apart, LastMoved}
 use Rattle.renumber.specs.declared.shift.Shift.{Shift}
-use Rattle.renumber.specs.declared.last.Last.{Last}
-use Rattle.renumber.specs.declared.last.Last.the-variants.{Nowhere, At}
+use Rattle.renumber_last.specs.declared.Last.{Last}
+use Rattle.renumber_last.specs.declared.Last.the-variants.{Nowhere, At}
 use Rattle.renumber.proofs.Laws.{length-channelsMoved, length-banksMoved, banksMoved-none, banksMoved-last, bankMoved, bank-ends}
 use Rattle.plan.specs.declared.Counted.{Counted}
 use Rattle.plan.specs.declared.Plan.the-variants.{Contacts, Channels}

@@ -1,5 +1,5 @@
 -- The file of the codeplug of a file is that file: parts that touch are put together again, and the offsets are where the banks start.
-use Prim.Native.Nat.{ℕ, zero, suc, _+_, _*_, _^_, _≤_, _<_}
+use Prim.Native.Nat.{ℕ, zero, suc, _+_, _*_, _≤_, _<_}
 use mathlib.Core.Path.{_≡_, refl, sym, _∙_}
 use mathlib.Core.List.{List, _++_, map, append-assoc}
 use native.Mathlib.Omega.{arith}
@@ -9,7 +9,7 @@ use Rattle.fields.specs.Bytes.{part, num, littleBytes}
 use Rattle.fields.specs.declared.rule.Verdict.the-variants.{Good}
 use Rattle.fields.proofs.Laws.{length-part, part-add, AllBytes, littleBytes-num}
 use Rattle.layout.specs.Places.{contactCount, channelCount, bankCount, contactPlace, channelPlace, offsetPlace, banksPlace}
-use Rattle.layout.specs.Banks.{entryCount, nextBank, offsetsRule, banksRule, bankPlace}
+use Rattle.layout.specs.Banks.{entryCount, nextBank, offsetsRule, bankPlace}
 use Rattle.layout.proofs.Laws.{bank-leads, bank-inside, bank-first, bank-next, banks-end-is, offset-walks, offset-good, offset-inside}
 use Rattle.plug.specs.Laid.{Laid}
 use Rattle.plug.specs.Plug.{Bank, joined, bankBytes, offsetsFrom, countBytes, plugBytes, indexesAt, banksAt, plugOf}

@@ -1,12 +1,14 @@
 // A codeplug as lists of records, its file, and the twelve edits on it: definitions and their laws; the kinds of edits.
 pub mod places; // places.rt: banks of a file by their offsets
 
+use channel::ContactIndex;
 use format::sizes::CHANNEL_SIZE;
 use format::sizes::CONTACT_SIZE;
 use format::sizes::ENTRY_SIZE;
 use format::sizes::TEXT_SIZE;
 use format::sizes::TITLE_SIZE;
 ghost use mathlib.Core.Path.{_≡_};
+ghost use Rattle.plug.specs.EditRules.{isIndex};
 ghost use Rattle.plug.specs.Kinds.{kindOf, recordLength};
 
 // The twelve kinds of edits, in the order of document 01.
@@ -62,5 +64,15 @@ pub fn record_length(k: Kind) -> usize
         Kind::InsertEntry => ENTRY_SIZE,
         Kind::SetHeader => TITLE_SIZE,
         Kind::RemoveContact | Kind::RemoveChannel | Kind::RemoveBank | Kind::RemoveEntry => 0,
+    }
+}
+
+// Whether a channel's contact index is i.
+pub fn is_index(c: ContactIndex, i: usize) -> bool
+    ensures { λ r. ⌜ r ≡ isIndex i c ⌝ }
+{
+    match c {
+        ContactIndex::Nobody => false,
+        ContactIndex::Index(x) => x as usize == i,
     }
 }

@@ -1,7 +1,7 @@
 // Banks of a file by their offsets.
-use layout::banks::entry_count;
-use layout::banks::offset_leads;
 use layout::places::bank_count;
+use layout::places::entry_count;
+use layout::places::offset_leads;
 use layout::places::offset_place;
 ghost use mathlib.Core.Path.{_≡_};
 ghost use Prim.Native.Nat.{_<_, _≤_, _^_};

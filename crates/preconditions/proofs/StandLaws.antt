@@ -11,7 +11,7 @@ use Rattle.fields.specs.Rule.{_then_, unless}
 use Rattle.fields.specs.declared.rule.Verdict.{Verdict}
 use Rattle.fields.specs.declared.rule.Verdict.the-variants.{Good, Refused}
 use Rattle.fields.proofs.Laws.{then-good, unless-good}
-use Rattle.validation.specs.File.{fileRule}
+use Rattle.file_rule.specs.File.{fileRule}
 use Rattle.journal.specs.Entry.{Entries, whole, broken, entriesOf}
 use Rattle.journal.specs.Scan.{numberOfEntries}
 use Rattle.journal.specs.Machine.{State, wholeRule, fileOf, historyOf, buffersRule}

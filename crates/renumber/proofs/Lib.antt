@@ -1,3 +1,2 @@
 -- Laws of renumbering.
 pub mod Laws
-pub mod LastLaws

@@ -2,4 +2,3 @@
 -- plug, specs/Edits.antt.
 pub mod Shift
 pub mod Moved
-pub mod Last

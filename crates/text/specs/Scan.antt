@@ -1,6 +1,6 @@
 -- How the text judge goes about it, byte after byte. No promise to a caller rests on these.
 use Prim.Native.Nat.{ℕ}
-use mathlib.Core.Bool.{Bool, true, false, _&&_, _||_, not, cond}
+use mathlib.Core.Bool.{Bool, _&&_, _||_, not, cond}
 use mathlib.Core.List.{List}
 use lib.Dec.{eqb}
 use Rattle.text.specs.Text.{printable, allZero, textOk}

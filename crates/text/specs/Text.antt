@@ -1,6 +1,6 @@
 -- Texts (document 01, "The file"): zero or more bytes 0x20 to 0x7E, then zeros to the end of a field of 32 bytes.
 use Prim.Native.Nat.{ℕ, _-_}
-use mathlib.Core.Bool.{Bool, true, false, _&&_, cond}
+use mathlib.Core.Bool.{Bool, true, _&&_, cond}
 use mathlib.Core.List.{List, [], _∷_, _++_}
 use lib.ListN.{length, drop}
 use lib.Dec.{leb, eqb}

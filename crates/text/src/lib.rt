@@ -4,7 +4,6 @@ ghost use mathlib.Core.Path.{_≡_};
 ghost use mathlib.Core.Bool.{true};
 ghost use Prim.Native.Nat.{_+_, _<_, _≤_, _^_};
 ghost use lib.ListN.{length};
-ghost use lib.Dec.{eqb};
 ghost use Rattle.fields.specs.Bytes.{part};
 ghost use Rattle.text.specs.Text.{textOk, textOf, givenOk, plainText};
 ghost use Rattle.fields.specs.Rule.{field};

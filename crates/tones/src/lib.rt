@@ -1,7 +1,7 @@
 // CTCSS tones: the tone byte, and the table of 50 tones (document 01, "The file"; source 000).
 ghost use mathlib.Core.Path.{_≡_};
 ghost use mathlib.Core.Bool.{true};
-ghost use Prim.Native.Nat.{_+_, _<_, _≤_};
+ghost use Prim.Native.Nat.{_+_, _<_};
 ghost use Rattle.tones.specs.Tone.{toneOk, toneOf, toneByte, toneGood, toneIndex, frequencyOf, indexOf};
 
 // A tone by its index in the table. A disabled tone keeps its index: a blank tone is Disabled(0), never Enabled(0).

@@ -11,7 +11,7 @@ use Rattle.fields.specs.Rule.{isGood}
 use Rattle.fields.specs.declared.rule.Verdict.{Verdict}
 use Rattle.fields.specs.declared.rule.Verdict.the-variants.{Good, Refused}
 use Rattle.fields.proofs.Laws.{length-part, length-over, length-zeros, part-over, drop-over}
-use Rattle.validation.specs.File.{fileRule}
+use Rattle.file_rule.specs.File.{fileRule}
 use Rattle.moves.specs.Cut.{cut}
 use Rattle.moves.specs.Splice.{spliced}
 use Rattle.rotation.specs.Turn.{turned}

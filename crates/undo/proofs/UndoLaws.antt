@@ -14,7 +14,7 @@ use Rattle.fields.specs.Rule.{_then_, unless, isGood}
 use Rattle.fields.specs.declared.rule.Verdict.{Verdict}
 use Rattle.fields.specs.declared.rule.Verdict.the-variants.{Good, Refused}
 use Rattle.fields.proofs.Laws.{AllBytes, bytes-take, bytes-drop, length-part, length-zeros, part-part, over-over, over-zero}
-use Rattle.validation.specs.File.{fileRule}
+use Rattle.file_rule.specs.File.{fileRule}
 use Rattle.moves.specs.Cut.{cut}
 use Rattle.moves.specs.Splice.{spliced}
 use Rattle.moves.proofs.Laws.{spliced-whole, spliced-of, spliced-content}

@@ -6,7 +6,7 @@ use mathlib.Core.List.{List}
 use lib.ListN.{take, drop}
 use Rattle.fields.specs.Bytes.{part}
 use Rattle.fields.specs.Rule.{isGood}
-use Rattle.validation.specs.File.{fileRule}
+use Rattle.file_rule.specs.File.{fileRule}
 use Rattle.moves.specs.Cut.{cut}
 use Rattle.moves.specs.Splice.{spliced}
 use Rattle.journal.specs.Entry.{Entry}

@@ -1,2 +1,2 @@
--- The codeplug file: what is accepted.
-pub mod File
+-- The judge's answer.
+pub mod Judgement

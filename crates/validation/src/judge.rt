@@ -1,16 +1,17 @@
 // The judge of the file: 1 first, then fields in file order, the first bad one answering.
 use crate::Judged;
-use crate::records::judge_channels;
-use crate::records::judge_contacts;
 use fields::rule::Verdict;
+use file_channels::judge_channels;
+use file_contacts::judge_contacts;
 use format::refusals::TOO_LONG;
 use format::sizes::FILE_MAX;
-use layout::banks::judge_banks;
-use layout::banks::judge_offsets;
-use layout::header::judge_header;
 use layout::places::counts_of;
+use layout_validation::banks::judge_banks;
+use layout_validation::banks::judge_offsets;
+use layout_validation::header::judge_header;
 ghost use mathlib.Core.Path.{_≡_};
-ghost use Rattle.validation.specs.File.{fileRule, judgement};
+ghost use Rattle.file_rule.specs.File.{fileRule};
+ghost use Rattle.validation.specs.Judgement.{judgement};
 
 // The first refusal of a file.
 pub fn verdict_on(f: &[u8]) -> Verdict

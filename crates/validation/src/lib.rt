@@ -1,7 +1,5 @@
 // The judge of the whole codeplug file (document 01, "The file", "The refusals, by number").
 pub mod judge; // judge.rt: the judge of the file
-pub mod records; // records.rt: the judge of the contacts and the channels
-mod whole; // whole.rt: whether all contacts and all channels are good
 
 use layout::Counts;
 

@@ -24,35 +24,11 @@ returns c =
     let l = c .before .before .loop in
     end-end (e .a .now) (e .b .now) (l .i) (l .inv .1) (omega arith) (omega arith) (inr (omega arith))
 
-sub-if2 : tie.Need-sub-if2 Inv-loop μ-loop
-sub-if2 c = omega arith
-
-sub-if2-2 : tie.Need-sub-if2-2 Inv-loop μ-loop
-sub-if2-2 c = omega arith
-
-shared-slice-read-if2 : tie.Need-shared-slice-read-if2 Inv-loop μ-loop
-shared-slice-read-if2 c = omega arith
-
-sub-if2-3 : tie.Need-sub-if2-3 Inv-loop μ-loop
-sub-if2-3 c = omega arith
-
-sub-if2-4 : tie.Need-sub-if2-4 Inv-loop μ-loop
-sub-if2-4 c = omega arith
-
-shared-slice-read-if2-2 : tie.Need-shared-slice-read-if2-2 Inv-loop μ-loop
-shared-slice-read-if2-2 c = omega arith
-
 returns-2 : tie.Need-returns-2 Inv-loop μ-loop
 returns-2 c =
     let e = c .before .before .before .before .before .before .before .before .before .args in
     let l = c .before .before .before .before .before .loop in
     end-stop (e .a .now) (e .b .now) (l .i) (l .inv .1) (omega arith) (omega arith) (λ g. omega arith)
-
-add-i : tie.Need-add-i Inv-loop μ-loop
-add-i c = omega arith
-
-loop-less : tie.Need-loop-less Inv-loop μ-loop
-loop-less c = omega arith
 
 loop-again : tie.Need-loop-again Inv-loop μ-loop
 loop-again c =
@@ -77,14 +53,14 @@ common-end-spec =
     (search needs)
     loop-holds
     returns
-    sub-if2
-    sub-if2-2
-    shared-slice-read-if2
-    sub-if2-3
-    sub-if2-4
-    shared-slice-read-if2-2
+    (λ c. omega arith)
+    (λ c. omega arith)
+    (λ c. omega arith)
+    (λ c. omega arith)
+    (λ c. omega arith)
+    (λ c. omega arith)
     returns-2
-    add-i
-    loop-less
+    (λ c. omega arith)
+    (λ c. omega arith)
     loop-again
     returns-3)

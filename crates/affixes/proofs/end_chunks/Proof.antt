@@ -17,38 +17,11 @@ abbrev μ-loop : tie.MeasureT-loop
 loop-holds : tie.Need-loop-holds Inv-loop μ-loop
 loop-holds c = ((omega arith, omega arith), end-none _ _)
 
-sub-loop : tie.Need-sub-loop Inv-loop μ-loop
-sub-loop c = omega arith
-
-sub-if1 : tie.Need-sub-if1 Inv-loop μ-loop
-sub-if1 c = omega arith
-
 returns : tie.Need-returns Inv-loop μ-loop
 returns c = c .before .before .loop .inv
 
-sub-same32 : tie.Need-sub-same32 Inv-loop μ-loop
-sub-same32 c = omega arith
-
-sub-same32-2 : tie.Need-sub-same32-2 Inv-loop μ-loop
-sub-same32-2 c = omega arith
-
-sub-same32-3 : tie.Need-sub-same32-3 Inv-loop μ-loop
-sub-same32-3 c = omega arith
-
-sub-same32-4 : tie.Need-sub-same32-4 Inv-loop μ-loop
-sub-same32-4 c = omega arith
-
-same32-requires : tie.Need-same32-requires Inv-loop μ-loop
-same32-requires c κs = omega arith
-
 returns-2 : tie.Need-returns-2 Inv-loop μ-loop
 returns-2 c = c .before .before .before .before .loop .inv
-
-add-i : tie.Need-add-i Inv-loop μ-loop
-add-i c = omega arith
-
-loop-less : tie.Need-loop-less Inv-loop μ-loop
-loop-less c = omega arith
 
 loop-again : tie.Need-loop-again Inv-loop μ-loop
 loop-again c =
@@ -68,16 +41,16 @@ end-chunks-spec =
     Inv-loop
     μ-loop
     loop-holds
-    sub-loop
-    sub-if1
+    (λ c. omega arith)
+    (λ c. omega arith)
     returns
-    sub-same32
-    sub-same32-2
-    sub-same32-3
-    sub-same32-4
-    same32-requires
+    (λ c. omega arith)
+    (λ c. omega arith)
+    (λ c. omega arith)
+    (λ c. omega arith)
+    (λ c κs. omega arith)
     returns-2
-    add-i
-    loop-less
+    (λ c. omega arith)
+    (λ c. omega arith)
     loop-again
     returns-3)

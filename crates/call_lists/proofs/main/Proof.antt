@@ -8,10 +8,10 @@ use Rattle.call_lists.proofs.main.Statement.{statement}
 use Rattle.call_lists.proofs.main.Tie as tie
 
 abbrev Inv-loop : tie.InvT-loop
-Inv-loop buffer₀ room₀ history₀ turns₀ buffer room history turns = (65536 ≡ length buffer) × ((65536 ≡ length room) × ((65536 ≡ length history) × (turns ≤ 1000000)))
+Inv-loop room₀ history₀ turns₀ room history turns = (65536 ≡ length room) × ((65536 ≡ length history) × (turns ≤ 1000000))
 
 abbrev μ-loop : tie.MeasureT-loop
-μ-loop buffer₀ room₀ history₀ turns₀ buffer room history turns = 1000000 - turns
+μ-loop room₀ history₀ turns₀ room history turns = 1000000 - turns
 
 pub main-spec : {M : Type 1} → statement M
 main-spec =
@@ -19,8 +19,6 @@ main-spec =
     (tie.spec
     Inv-loop
     μ-loop
-    (search needs)
-    (search needs)
     (search needs)
     (search needs)
     (search needs)

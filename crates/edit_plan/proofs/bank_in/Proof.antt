@@ -60,5 +60,6 @@ bank-in-spec =
     (search needs)
     cast-count
     offset-place-requires
+    (search needs)
     table-from-requires
     returns)

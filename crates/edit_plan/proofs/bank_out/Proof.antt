@@ -1,5 +1,5 @@
 -- The bank is there, so the count of banks is not zero.
-use Prim.Native.Nat.{_^_, _≤_, _<_}
+use Prim.Native.Nat.{_^_, _<_}
 use lib.ListN.{length}
 use Rattle.layout.specs.Places.{bankCount}
 use Rattle.fields.proofs.Laws.{AllBytes}

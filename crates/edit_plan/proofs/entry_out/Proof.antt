@@ -1,5 +1,5 @@
 -- The bank is there with its entries, and the count is not zero.
-use Prim.Native.Nat.{_^_, _≤_, _<_}
+use Prim.Native.Nat.{_^_, _<_}
 use mathlib.Core.Path.{_≡_, refl, _∙_}
 use lib.ListN.{length}
 use Rattle.layout.specs.Places.{bankCount}

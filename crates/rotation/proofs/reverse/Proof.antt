@@ -14,35 +14,11 @@ Inv-loop d₀ from n lo₀ hi₀ d lo hi = ((lo ≤ hi) × (hi ≤ length d₀))
 abbrev μ-loop : tie.MeasureT-loop
 μ-loop d₀ from n lo₀ hi₀ d lo hi = hi - lo
 
-add-hi : tie.Need-add-hi Inv-loop μ-loop
-add-hi c = omega arith
-
 loop-holds : tie.Need-loop-holds Inv-loop μ-loop
 loop-holds c = ((omega arith, omega arith), (omega arith, reversed-none-left (c .args .d .now) (c .args .from) (c .args .n)))
 
-sub-loop : tie.Need-sub-loop Inv-loop μ-loop
-sub-loop c = omega arith
-
-sub-hi : tie.Need-sub-hi Inv-loop μ-loop
-sub-hi c = omega arith
-
-slice-read-x : tie.Need-slice-read-x Inv-loop μ-loop
-slice-read-x c = omega arith
-
-slice-read-d : tie.Need-slice-read-d Inv-loop μ-loop
-slice-read-d c = omega arith
-
-slice-write-d : tie.Need-slice-write-d Inv-loop μ-loop
-slice-write-d c = omega arith
-
 slice-write-d-2 : tie.Need-slice-write-d-2 Inv-loop μ-loop
 slice-write-d-2 c = simp length-set (omega arith)
-
-add-lo : tie.Need-add-lo Inv-loop μ-loop
-add-lo c = omega arith
-
-loop-less : tie.Need-loop-less Inv-loop μ-loop
-loop-less c = omega arith
 
 loop-again : tie.Need-loop-again Inv-loop μ-loop
 loop-again c =
@@ -54,9 +30,6 @@ loop-again c =
         reversed-more (l .d) (e .d .now) (l .lo) (l .hi) (e .from) (e .n) (l .inv .1 .1) (omega arith) (omega arith),
       ),
     )
-
-same-length : tie.Need-same-length Inv-loop μ-loop
-same-length c = omega arith
 
 returns : tie.Need-returns Inv-loop μ-loop
 returns c =
@@ -70,16 +43,16 @@ reverse-spec =
     (tie.spec
     Inv-loop
     μ-loop
-    add-hi
+    (λ c. omega arith)
     loop-holds
-    sub-loop
-    sub-hi
-    slice-read-x
-    slice-read-d
-    slice-write-d
+    (λ c. omega arith)
+    (λ c. omega arith)
+    (λ c. omega arith)
+    (λ c. omega arith)
+    (λ c. omega arith)
     slice-write-d-2
-    add-lo
-    loop-less
+    (λ c. omega arith)
+    (λ c. omega arith)
     loop-again
-    same-length
+    (λ c. omega arith)
     returns)

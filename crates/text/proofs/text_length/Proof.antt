@@ -6,7 +6,6 @@ use native.Mathlib.Numerals.{add-one}
 use lib.ListN.{length, drop}
 use Rattle.text.specs.Text.{textOf}
 use Rattle.text.proofs.Laws.{text-more, text-stop, text-end}
-use borrow.Author.Needs.{needs}
 use Rattle.text.proofs.text_length.Statement.{statement}
 use Rattle.text.proofs.text_length.Tie as tie
 
@@ -16,23 +15,11 @@ Inv-loop s i₀ i = (i ≤ length s) × (length (textOf s) ≡ i + length (textO
 abbrev μ-loop : tie.MeasureT-loop
 μ-loop s i₀ i = length s - i
 
-loop-holds : tie.Need-loop-holds Inv-loop μ-loop
-loop-holds c = omega arith
-
-shared-slice-read-if1 : tie.Need-shared-slice-read-if1 Inv-loop μ-loop
-shared-slice-read-if1 c = omega arith
-
 returns : tie.Need-returns Inv-loop μ-loop
 returns c =
     let l = c .before .before .before .loop in
     let s = c .before .before .before .before .args .s .now in
     omega (arith, text-stop s (l .i) (c .before .before .loop-test .taken) (c .if1 .taken))
-
-add-i : tie.Need-add-i Inv-loop μ-loop
-add-i c = omega arith
-
-loop-less : tie.Need-loop-less Inv-loop μ-loop
-loop-less c = omega arith
 
 loop-again : tie.Need-loop-again Inv-loop μ-loop
 loop-again c =
@@ -50,4 +37,4 @@ returns-2 c =
 pub text-length-spec : {M : Type 1} → statement M
 text-length-spec =
     tie.close
-    (tie.spec Inv-loop μ-loop loop-holds shared-slice-read-if1 returns add-i loop-less loop-again returns-2)
+    (tie.spec Inv-loop μ-loop (λ c. omega arith) (λ c. omega arith) returns (λ c. omega arith) (λ c. omega arith) loop-again returns-2)

@@ -1,16 +1,17 @@
 -- `call_lists::calls::make` is safe and ends: the buffers keep their lengths, and each call takes at least a byte of the case.
 use Prim.Native.Nat.{_-_}
-use mathlib.Core.Path.{_≡_}
+use mathlib.Core.Path.{_≡_, refl}
 use lib.ListN.{length}
+use native.Mathlib.Omega.{arith}
 use borrow.Author.Needs.{needs}
 use Rattle.call_lists.proofs.calls.make.Statement.{statement}
 use Rattle.call_lists.proofs.calls.make.Tie as tie
 
 abbrev Inv-loop : tie.InvT-loop
-Inv-loop case start room₀ room-length history₀ history-length k₀ len₀ used₀ room history k len used = (length room ≡ length room₀) × (length history ≡ length history₀)
+Inv-loop case room₀ room-length history₀ history-length k₀ len₀ used₀ room history k len used = (length room ≡ length room₀) × (length history ≡ length history₀)
 
 abbrev μ-loop : tie.MeasureT-loop
-μ-loop case start room₀ room-length history₀ history-length k₀ len₀ used₀ room history k len used = length case - k
+μ-loop case room₀ room-length history₀ history-length k₀ len₀ used₀ room history k len used = length case - k
 
 pub make-spec : {M : Type 1} → statement M
 make-spec =
@@ -18,13 +19,13 @@ make-spec =
     (tie.spec
     Inv-loop
     μ-loop
+    (λ c. (refl, refl))
+    (λ c κs. omega arith)
     (search needs)
     (search needs)
     (search needs)
-    (search needs)
-    (search needs)
-    (search needs)
-    (search needs)
+    (λ c κs. omega arith)
+    (λ c. omega arith)
     (search needs)
     (search needs)
     (search needs)

@@ -8,14 +8,14 @@ bank-bytes-requires : tie.Need-bank-bytes-requires
 bank-bytes-requires c κs = λ g. c .before .bank-verdict .ensures .1 g
 
 bank-out-requires : tie.Need-bank-out-requires
-bank-out-requires c κs = λ g. c .bank-bytes .ensures g .1
+bank-out-requires c κs = λ g. c .bank-bytes .ensures .1 g
 
 returns : tie.Need-returns
 returns c =
     let b = c .before .before .before in
     let v = b .before .before .bank-verdict .ensures in
     let a = b .before .before .before .before .before .args in
-    rw (← bank-read-once (a .file .now) (a .n) _ _ (v .0) (λ g. b .bank-bytes .ensures g .0)) (c .before .before .bank-out .ensures)
+    rw (← bank-read-once (a .file .now) (a .n) _ _ (v .0) (b .bank-bytes .ensures .0)) (c .before .before .bank-out .ensures)
 
 pub codeplug-bank-once-spec : {M : Type 1} → statement M
 codeplug-bank-once-spec = tie.close (tie.spec (search needs) bank-bytes-requires bank-out-requires (search needs) returns)

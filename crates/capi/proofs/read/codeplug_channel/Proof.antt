@@ -8,14 +8,14 @@ channel-bytes-requires : tie.Need-channel-bytes-requires
 channel-bytes-requires c κs = λ g. c .before .channel-verdict .ensures .1 g
 
 channel-out-requires : tie.Need-channel-out-requires
-channel-out-requires c κs = λ g. c .channel-bytes .ensures g .1
+channel-out-requires c κs = λ g. c .channel-bytes .ensures .1 g
 
 returns : tie.Need-returns
 returns c =
     let b = c .before .before .before in
     let v = b .before .before .channel-verdict .ensures in
     let a = b .before .before .before .before .before .args in
-    rw (← channel-read (a .file .now) (a .n) _ _ (v .0) (λ g. b .channel-bytes .ensures g .0)) (c .before .before .channel-out .ensures)
+    rw (← channel-read (a .file .now) (a .n) _ _ (v .0) (b .channel-bytes .ensures .0)) (c .before .before .channel-out .ensures)
 
 pub codeplug-channel-spec : {M : Type 1} → statement M
 codeplug-channel-spec = tie.close (tie.spec (search needs) channel-bytes-requires channel-out-requires (search needs) returns)

@@ -8,14 +8,14 @@ contact-bytes-requires : tie.Need-contact-bytes-requires
 contact-bytes-requires c κs = λ g. c .before .contact-verdict .ensures .1 g
 
 contact-out-requires : tie.Need-contact-out-requires
-contact-out-requires c κs = λ g. c .contact-bytes .ensures g .1
+contact-out-requires c κs = λ g. c .contact-bytes .ensures .1 g
 
 returns : tie.Need-returns
 returns c =
     let b = c .before .before .before in
     let v = b .before .before .contact-verdict .ensures in
     let a = b .before .before .before .before .before .args in
-    rw (← contact-read (a .file .now) (a .n) _ _ (v .0) (λ g. b .contact-bytes .ensures g .0)) (c .before .before .contact-out .ensures)
+    rw (← contact-read (a .file .now) (a .n) _ _ (v .0) (b .contact-bytes .ensures .0)) (c .before .before .contact-out .ensures)
 
 pub codeplug-contact-spec : {M : Type 1} → statement M
 codeplug-contact-spec = tie.close (tie.spec (search needs) contact-bytes-requires contact-out-requires (search needs) returns)

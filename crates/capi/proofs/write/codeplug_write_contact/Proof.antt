@@ -1,12 +1,31 @@
--- The verdict as numbers.
+-- A good mode is judged as the library judges; a foreign one answers in its turn.
+use mathlib.Core.Path.{_∙_}
+use mathlib.Core.Logic.{⊎-elim}
+use native.Mathlib.Omega.{arith}
+use Rattle.capi.proofs.ContactLaws.{dmr-known, m17-known, mode-foreign, contact-goes, contact-stops}
+use borrow.Author.Tests.{eqb-true, eqb-false}
 use borrow.Author.Needs.{needs}
 use Rattle.capi.proofs.write.codeplug_write_contact.Statement.{statement}
 use Rattle.capi.proofs.write.codeplug_write_contact.Tie as tie
 
 returns : tie.Need-returns
 returns c =
-    let a = c .before .before .before .contact-asked .ensures in
-    (rw (← a .0) (c .refusal-of .ensures), a .1)
+    let w = c .before .before .before in
+    let i = w .before .before in
+    let m = i .before .before .before .before .args .values .mode in
+    let known = ⊎-elim (λ w. dmr-known m (omega arith)) (λ w. m17-known m (omega (arith, eqb-true))) (i .before .if1 .came) in
+    contact-goes _ _ _ _ _ _ _ known (i .info-from .ensures) (w .write .ensures) (c .refusal-of .ensures)
+
+returns-2 : tie.Need-returns-2
+returns-2 c =
+    let f = c .before in
+    let u = f .before .before in
+    let g = u .before in
+    let b = g .before .before in
+    let a = b .before .before .before .before .args in
+    contact-stops (a .out .now) (a .name .now) (a .values) _ _ (mode-foreign _ (b .before .if1 .left) (eqb-false _ 2 (b .if2 .left)))
+    (f .first2 .ensures ∙ rw (f .before .first .ensures, u .unless2 .ensures, g .given-ok .ensures, g .before .unless .ensures))
+    (c .refusal-of2 .ensures)
 
 pub codeplug-write-contact-spec : {M : Type 1} → statement M
-codeplug-write-contact-spec = tie.close (tie.spec (search needs) (search needs) (search needs) returns)
+codeplug-write-contact-spec = tie.close (tie.spec (search needs) (search needs) (search needs) (search needs) returns (search needs) (search needs) (search needs) (search needs) (search needs) (search needs) returns-2)

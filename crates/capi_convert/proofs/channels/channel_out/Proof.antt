@@ -1,35 +1,42 @@
--- A short buffer, then the verdict; a good one comes with the bytes to put.
-use mathlib.Core.Path.{_≡_, refl}
+-- The answer to the verdict told, and the texts; the bytes of a good one are taken whole once more.
+use mathlib.Core.Path.{_≡_}
 use lib.ListN.{length}
-use Rattle.fields.specs.Bytes.{part}
-use Rattle.fields.proofs.Laws.{length-part, long-part, over-then}
+use Rattle.fields.proofs.Laws.{part-all}
+use Rattle.tones.specs.Tone.{toneIndex}
+use Rattle.channel_reader.specs.Reading.{channelAnswer, blankChannel, channelOf}
+use Rattle.capi_convert.specs.Channels.{infoFields, channelTaken}
 use native.Mathlib.Omega.{arith}
-use Rattle.capi_convert.proofs.Laws.{channel-short, channel-stops, channel-goes}
+use Rattle.capi_convert.proofs.Laws.{put-good, channel-out}
 use borrow.Author.Needs.{needs}
 use Rattle.capi_convert.proofs.channels.channel_out.Statement.{statement}
 use Rattle.capi_convert.proofs.channels.channel_out.Tie as tie
 
+put-texts-requires : tie.Need-put-texts-requires
+put-texts-requires c κs = λ g. omega (arith, c .before .before .before .pre g)
+
 returns : tie.Need-returns
-returns c = channel-short _ _ _ _ (omega arith) (c .channel-refused .ensures)
+unfolding channelTaken channelAnswer blankChannel infoFields toneIndex
+returns c =
+    let b = c .before in
+    let t = b .before .before in
+    let p = t .before .before .before .before in
+    channel-out _ _ _ _ _ _ (p .put-texts .ensures) (rw (t .told .given .1, b .blank .ensures))
 
 part-whole-end : tie.Need-part-whole-end
-part-whole-end c = omega (arith, c .before .before .before .before .before .pre (c .enum-told .given .1))
+part-whole-end c =
+    let p = c .before .before .before .before in
+    omega (arith, p .before .before .before .before .pre (put-good (p .put-texts .ensures) (c .enum-told .given .1)))
 
 returns-2 : tie.Need-returns-2
+unfolding channelTaken channelAnswer channelOf
 returns-2 c =
-    let e = c .before .before .before .before in
-    let d = e .before .before .before .before in
-    let told = d .before .before .before .enum-told .given .1 in
-    let a = d .before .before .before .before .before .before .before .before in
-    let all : length (a .args .s .now) ≡ 90 = a .pre told in
-    let w = part (a .args .s .now) 0 90 in
-    let long : length w ≡ 90 = length-part (a .args .s .now) 0 90 (omega arith) in
-    channel-goes _ _ _ _ _ _ told (omega arith) all
-    (over-then _ _ _ 0 _ 32 _ (long-part w 13 32 (omega arith)) (d .put-text .ensures) (e .put-text2 .ensures) refl (omega arith))
-    (c .before .common-of .ensures) (c .fields-of .ensures)
-
-returns-3 : tie.Need-returns-3
-returns-3 c = channel-stops _ _ _ _ _ _ (c .before .before .v .given .1) (omega arith) (c .channel-refused2 .ensures)
+    let w = c .before .before .before in
+    let p = w .before .before .before .before in
+    let a = p .before .before .before .before in
+    let good = w .enum-told .given .1 in
+    let long : length (a .args .s .now) ≡ 90 = a .pre (put-good (p .put-texts .ensures) good) in
+    channel-out _ _ _ _ _ _ (p .put-texts .ensures)
+    (rw (good, c .before .common-of .ensures, c .fields-of .ensures, part-all (a .args .s .now) 90 (omega arith)))
 
 pub channel-out-spec : {M : Type 1} → statement M
-channel-out-spec = tie.close (tie.spec (search needs) returns (search needs) (search needs) (search needs) part-whole-end (search needs) (search needs) (search needs) (search needs) (search needs) (search needs) (search needs) returns-2 returns-3)
+channel-out-spec = tie.close (tie.spec put-texts-requires (search needs) (search needs) (search needs) returns (search needs) (search needs) (search needs) part-whole-end (search needs) (search needs) (search needs) returns-2)

@@ -9,6 +9,4 @@ unfolding infoFields
 returns c = rw (c .tone-on2 .ensures, c .before .index-in2 .ensures, c .before .before .tone-on .ensures, c .before .before .before .index-in .ensures)
 
 pub fm-fields-spec : {M : Type 1} → statement M
-fm-fields-spec =
-    tie.close
-    (tie.spec (search needs) (search needs) (search needs) (search needs) returns)
+fm-fields-spec = tie.close (tie.spec (search needs) (search needs) (search needs) (search needs) returns)

@@ -1,29 +1,27 @@
--- A short buffer, then the verdict; a good one comes with the bytes to put.
-use mathlib.Core.Path.{ap, _∙_}
-use Rattle.capi_convert.specs.Contacts.{contactFields}
+-- The answer to the verdict told, and the name.
+use Rattle.capi_convert.specs.Contacts.{contactTaken}
 use native.Mathlib.Omega.{arith}
-use Rattle.capi_convert.proofs.Laws.{contact-short, contact-stops, contact-goes}
+use Rattle.capi_convert.proofs.Laws.{put-good, contact-verdict, contact-out}
 use borrow.Author.Needs.{needs}
 use Rattle.capi_convert.proofs.contacts.contact_out.Statement.{statement}
 use Rattle.capi_convert.proofs.contacts.contact_out.Tie as tie
 
+put-name-requires : tie.Need-put-name-requires
+put-name-requires c κs = λ g. omega (arith, c .before .before .before .pre g)
+
+answer-requires : tie.Need-answer-requires
+answer-requires c κs =
+    let p = c .before .before in
+    λ g. p .before .before .before .before .pre (put-good (p .put-name .ensures) g)
+
 returns : tie.Need-returns
-returns c = contact-short _ _ _ _ (omega arith) (c .contact-refused .ensures)
-
-put-text-requires : tie.Need-put-text-requires
-put-text-requires c κs = (omega arith, omega (arith, c .before .before .before .before .before .before .pre (c .before .enum-told .given .1)))
-
-info-of-requires : tie.Need-info-of-requires
-info-of-requires c κs = omega (arith, c .before .before .before .before .before .before .before .before .before .pre (c .before .before .before .before .enum-told .given .1))
-
-returns-2 : tie.Need-returns-2
-returns-2 c =
-    let e = c .before .before .before .before in
-    contact-goes _ _ _ _ _ (e .before .before .enum-told .given .1) (omega arith) (e .put-text .ensures)
-    (c .contact-fields .ensures ∙ ap contactFields (c .before .info-of .ensures))
-
-returns-3 : tie.Need-returns-3
-returns-3 c = contact-stops _ _ _ _ _ _ (c .before .before .v .given .1) (omega arith) (c .contact-refused2 .ensures)
+unfolding contactTaken
+returns c =
+    let r = c .before in
+    let a = r .before .before in
+    let p = a .before .before .before in
+    contact-out _ _ _ _ _ _ (p .put-name .ensures)
+    (rw (contact-verdict _ _, c .contact-fields .ensures, r .refusal-of .ensures, a .answer .ensures))
 
 pub contact-out-spec : {M : Type 1} → statement M
-contact-out-spec = tie.close (tie.spec (search needs) returns (search needs) put-text-requires info-of-requires (search needs) (search needs) (search needs) (search needs) returns-2 returns-3)
+contact-out-spec = tie.close (tie.spec put-name-requires answer-requires (search needs) (search needs) (search needs) returns)

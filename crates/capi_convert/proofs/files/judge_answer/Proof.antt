@@ -7,7 +7,7 @@ returns : tie.Need-returns
 returns c = rw (c .before .j .given .1)
 
 returns-2 : tie.Need-returns-2
-returns-2 c = rw (c .before .before .j2 .given .1, c .no-counts .ensures)
+returns-2 c = rw (c .before .j2 .given .1)
 
 pub judge-answer-spec : {M : Type 1} → statement M
-judge-answer-spec = tie.close (tie.spec (search needs) (search needs) (search needs) returns returns-2)
+judge-answer-spec = tie.close (tie.spec (search needs) (search needs) returns returns-2)

@@ -1,5 +1,6 @@
 -- A good verdict comes with a place to lend from, where the offset leads.
 use Rattle.codeplug.specs.Once.{tablePlace}
+use Rattle.codeplug.specs.Read.{bytesAnswer}
 use Rattle.codeplug.proofs.Laws.{never}
 use native.Mathlib.Omega.{arith}
 use borrow.Author.Needs.{needs}
@@ -10,18 +11,18 @@ enum-told : tie.Need-enum-told
 enum-told c = search needs
 
 returns : tie.Need-returns
-returns c = λ g. never (c .before .enum-told .given .1) g
+unfolding bytesAnswer
+returns c = (rw (c .before .enum-told .given .1), λ g. never (c .before .enum-told .given .1) g)
 
 offset-place-requires : tie.Need-offset-place-requires
 offset-place-requires c κs = omega (arith, c .before .before .before .pre (c .enum-told2 .given .1) .0)
 
 returns-2 : tie.Need-returns-2
-unfolding tablePlace
+unfolding bytesAnswer tablePlace
 returns-2 c =
-    λ g.
     let e = c .before .before .before in
     let is = rw (c .before .offset-leads .ensures .0, c .before .before .offset-place .ensures .0) at (c .lend .ensures) in
-    (is, rw is (e .before .before .before .pre g .1))
+    (rw (e .enum-told2 .given .1) is, λ g. rw is (e .before .before .before .pre g .1))
 
 pub bank-bytes-spec : {M : Type 1} → statement M
 bank-bytes-spec =

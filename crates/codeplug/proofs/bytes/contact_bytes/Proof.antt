@@ -1,4 +1,5 @@
 -- A good verdict comes with a place to lend from.
+use Rattle.codeplug.specs.Read.{bytesAnswer}
 use Rattle.codeplug.proofs.Laws.{never}
 use borrow.Author.Needs.{needs}
 use native.Mathlib.Omega.{arith}
@@ -9,17 +10,18 @@ enum-told : tie.Need-enum-told
 enum-told c = search needs
 
 returns : tie.Need-returns
-returns c = λ g. never (c .before .enum-told .given .1) g
+unfolding bytesAnswer
+returns c = (rw (c .before .enum-told .given .1), λ g. never (c .before .enum-told .given .1) g)
 
 contact-place-requires : tie.Need-contact-place-requires
 contact-place-requires c κs = c .before .before .before .pre (c .enum-told2 .given .1) .0
 
 returns-2 : tie.Need-returns-2
+unfolding bytesAnswer
 returns-2 c =
-    λ g.
     let e = c .before .before in
     let is = rw (c .before .contact-place .ensures .0) at (c .lend .ensures) in
-    (is, rw is (e .before .before .before .pre g .1))
+    (rw (e .enum-told2 .given .1) is, λ g. rw is (e .before .before .before .pre g .1))
 
 pub contact-bytes-spec : {M : Type 1} → statement M
 contact-bytes-spec =

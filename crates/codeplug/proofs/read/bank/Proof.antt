@@ -9,12 +9,12 @@ bank-bytes-requires : tie.Need-bank-bytes-requires
 bank-bytes-requires c κs = λ g. c .bank-verdict .ensures .1 g .0
 
 bank-answer-requires : tie.Need-bank-answer-requires
-bank-answer-requires c κs = λ g. c .bank-bytes .ensures g .1
+bank-answer-requires c κs = λ g. c .bank-bytes .ensures .1 g
 
 returns : tie.Need-returns
 returns c =
     let v = c .before .before .bank-verdict .ensures in
-    c .bank-answer .ensures ∙ bank-read _ _ _ _ (v .0) (v .1) (λ g. c .before .bank-bytes .ensures g .0)
+    c .bank-answer .ensures ∙ bank-read _ _ _ _ (v .0) (v .1) (c .before .bank-bytes .ensures .0)
 
 pub bank-spec : {M : Type 1} → statement M
 bank-spec =

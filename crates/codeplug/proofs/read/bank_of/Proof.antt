@@ -6,7 +6,7 @@ use Rattle.codeplug.proofs.read.bank_of.Tie as tie
 
 returns : tie.Need-returns
 unfolding bankOf
-returns c = cc
+returns c = rw (c .le16 .ensures, c .before .bytes32 .ensures)
 
 pub bank-of-spec : {M : Type 1} → statement M
 bank-of-spec = tie.close (tie.spec (search needs) (search needs) returns)

@@ -10,12 +10,12 @@ channel-bytes-requires : tie.Need-channel-bytes-requires
 channel-bytes-requires c κs = λ g. c .channel-verdict .ensures .1 g
 
 answer-requires : tie.Need-answer-requires
-answer-requires c κs = λ g. omega (arith, c .channel-bytes .ensures g .1)
+answer-requires c κs = λ g. omega (arith, c .channel-bytes .ensures .1 g)
 
 returns : tie.Need-returns
 returns c =
     let v = c .before .before .channel-verdict .ensures in
-    c .answer .ensures ∙ channel-read _ _ _ _ (v .0) (λ g. c .before .channel-bytes .ensures g .0)
+    c .answer .ensures ∙ channel-read _ _ _ _ (v .0) (c .before .channel-bytes .ensures .0)
 
 pub channel-spec : {M : Type 1} → statement M
 channel-spec =

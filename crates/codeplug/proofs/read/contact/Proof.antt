@@ -9,12 +9,12 @@ contact-bytes-requires : tie.Need-contact-bytes-requires
 contact-bytes-requires c κs = λ g. c .contact-verdict .ensures .1 g
 
 answer-requires : tie.Need-answer-requires
-answer-requires c κs = λ g. c .contact-bytes .ensures g .1
+answer-requires c κs = λ g. c .contact-bytes .ensures .1 g
 
 returns : tie.Need-returns
 returns c =
     let v = c .before .before .contact-verdict .ensures in
-    c .answer .ensures ∙ contact-read _ _ _ _ (v .0) (λ g. c .before .contact-bytes .ensures g .0)
+    c .answer .ensures ∙ contact-read _ _ _ _ (v .0) (c .before .contact-bytes .ensures .0)
 
 pub contact-spec : {M : Type 1} → statement M
 contact-spec =

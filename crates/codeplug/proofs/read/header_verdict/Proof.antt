@@ -1,6 +1,6 @@
 -- An accepted file has the 88 bytes.
 use mathlib.Core.Path.{sym, _∙_}
-use Rattle.validation.proofs.Laws.{file-header}
+use Rattle.file_rule.proofs.Laws.{file-header}
 use borrow.Author.Needs.{needs}
 use Rattle.codeplug.proofs.read.header_verdict.Statement.{statement}
 use Rattle.codeplug.proofs.read.header_verdict.Tie as tie

@@ -22,29 +22,11 @@ loop-holds : tie.Need-loop-holds Inv-loop μ-loop
 unfolding plugOf
 loop-holds c = (omega arith, (omega arith, rw (sub-zero, c .banks-place .ensures .0, c .before .bank-count .ensures .0)))
 
-entry-count-requires : tie.Need-entry-count-requires Inv-loop μ-loop
-entry-count-requires c κs = omega arith
-
-add-bank-holds : tie.Need-add-bank-holds Inv-loop μ-loop
-add-bank-holds c = omega arith
-
-bank-holds-requires : tie.Need-bank-holds-requires Inv-loop μ-loop
-bank-holds-requires c κs = omega arith
-
 returns : tie.Need-returns Inv-loop μ-loop
 returns c =
     let e = c .before in
     let l = e .before .before .before .loop in
     banks-found _ _ (l .n) (l .p) _ _ _ _ (omega arith) (l .inv .1 .1) (e .before .entry-count .ensures .0) (e .bank-holds .ensures) (c .if1 .taken)
-
-next-bank-requires : tie.Need-next-bank-requires Inv-loop μ-loop
-next-bank-requires c κs = omega arith
-
-add-n : tie.Need-add-n Inv-loop μ-loop
-add-n c = omega arith
-
-loop-less : tie.Need-loop-less Inv-loop μ-loop
-loop-less c = omega arith
 
 loop-again : tie.Need-loop-again Inv-loop μ-loop
 loop-again c =
@@ -67,12 +49,12 @@ some-holds-spec =
     (search needs)
     (search needs)
     loop-holds
-    entry-count-requires
-    add-bank-holds
-    bank-holds-requires
+    (λ c κs. omega arith)
+    (λ c. omega arith)
+    (λ c κs. omega arith)
     returns
-    next-bank-requires
-    add-n
-    loop-less
+    (λ c κs. omega arith)
+    (λ c. omega arith)
+    (λ c. omega arith)
     loop-again
     returns-2)

@@ -30,15 +30,6 @@ returns c =
     let l = s .before .before .loop in
     names-found _ _ (l .n) (l .p) _ _ _ _ _ (omega arith) (l .inv .1 .1) (s .lend .ensures) (e .before .named-contact .ensures) (e .is-index .ensures) (c .if1 .taken)
 
-add-n : tie.Need-add-n Inv-loop μ-loop
-add-n c = omega arith
-
-add-p : tie.Need-add-p Inv-loop μ-loop
-add-p c = omega arith
-
-loop-less : tie.Need-loop-less Inv-loop μ-loop
-loop-less c = omega arith
-
 loop-again : tie.Need-loop-again Inv-loop μ-loop
 loop-again c =
     let e = c .before in
@@ -65,8 +56,8 @@ some-names-spec =
     (search needs)
     (search needs)
     returns
-    add-n
-    add-p
-    loop-less
+    (λ c. omega arith)
+    (λ c. omega arith)
+    (λ c. omega arith)
     loop-again
     returns-2)

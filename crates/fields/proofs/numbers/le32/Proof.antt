@@ -5,9 +5,6 @@ use Rattle.fields.proofs.Laws.{num-halves}
 use Rattle.fields.proofs.numbers.le32.Statement.{statement}
 use Rattle.fields.proofs.numbers.le32.Tie as tie
 
-le16-requires-2 : tie.Need-le16-requires-2
-le16-requires-2 c κs = omega arith
-
 returns : tie.Need-returns
 returns c =
     let from = c .before .before .before .args in
@@ -20,7 +17,7 @@ le32-spec =
     (search needs)
     (search needs)
     (search needs)
-    le16-requires-2
+    (λ c κs. omega arith)
     (search needs)
     (search needs)
     (search needs)

@@ -5,9 +5,6 @@ use Rattle.fields.proofs.Laws.{num-halves}
 use Rattle.fields.proofs.numbers.le64.Statement.{statement}
 use Rattle.fields.proofs.numbers.le64.Tie as tie
 
-le32-requires-2 : tie.Need-le32-requires-2
-le32-requires-2 c κs = omega arith
-
 returns : tie.Need-returns
 returns c =
     let from = c .before .before .before .args in
@@ -20,7 +17,7 @@ le64-spec =
     (search needs)
     (search needs)
     (search needs)
-    le32-requires-2
+    (λ c κs. omega arith)
     (search needs)
     (search needs)
     (search needs)

@@ -33,9 +33,6 @@ none-here c =
 loop-holds : tie.Need-loop-holds Inv-loop μ-loop
 loop-holds c = (omega arith, counted-start (c .before .args .s .now))
 
-add-n : tie.Need-add-n Inv-loop μ-loop
-add-n c = omega arith
-
 loop-less : tie.Need-loop-less Inv-loop μ-loop
 loop-less c = omega (arith, read (c .before))
 
@@ -66,7 +63,7 @@ entries-in-spec =
     loop-holds
     (search needs)
     (search needs)
-    add-n
+    (λ c. omega arith)
     loop-less
     loop-again
     enum-told

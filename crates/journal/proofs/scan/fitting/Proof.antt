@@ -37,9 +37,6 @@ all-bytes c i = c .shared-slice-known .given i .fits
 loop-holds : tie.Need-loop-holds Inv-loop μ-loop
 loop-holds c = (omega arith, fitting-start (c .before .args .s .now) (c .before .args .room) (c .before .pre))
 
-add-entries : tie.Need-add-entries Inv-loop μ-loop
-add-entries c = omega arith
-
 loop-less : tie.Need-loop-less Inv-loop μ-loop
 loop-less c = omega (arith, read (c .before .before))
 
@@ -71,7 +68,7 @@ fitting-spec =
     loop-holds
     (search needs)
     (search needs)
-    add-entries
+    (λ c. omega arith)
     loop-less
     loop-again
     enum-told

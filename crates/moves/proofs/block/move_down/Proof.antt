@@ -14,29 +14,8 @@ Inv-loop d₀ from n by to i₀ d i = (i ≤ n) × ((length d ≡ length d₀) �
 abbrev μ-loop : tie.MeasureT-loop
 μ-loop d₀ from n by to i₀ d i = n - i
 
-sub-to : tie.Need-sub-to Inv-loop μ-loop
-sub-to c = omega arith
-
 loop-holds : tie.Need-loop-holds Inv-loop μ-loop
 loop-holds c = (omega arith, (omega arith, down-none _ _ (c .args .from)))
-
-add-d : tie.Need-add-d Inv-loop μ-loop
-add-d c = omega arith
-
-slice-read-d : tie.Need-slice-read-d Inv-loop μ-loop
-slice-read-d c = omega arith
-
-add-d-2 : tie.Need-add-d-2 Inv-loop μ-loop
-add-d-2 c = omega arith
-
-slice-write-d : tie.Need-slice-write-d Inv-loop μ-loop
-slice-write-d c = omega arith
-
-add-i : tie.Need-add-i Inv-loop μ-loop
-add-i c = omega arith
-
-loop-less : tie.Need-loop-less Inv-loop μ-loop
-loop-less c = omega arith
 
 loop-again : tie.Need-loop-again Inv-loop μ-loop
 loop-again c =
@@ -48,9 +27,6 @@ loop-again c =
         down-more (l .d) (e .d .now) (e .from - e .by) (e .from) (l .i) (l .inv .1 .1) (omega arith) (omega arith),
       ),
     )
-
-same-length : tie.Need-same-length Inv-loop μ-loop
-same-length c = omega arith
 
 returns : tie.Need-returns Inv-loop μ-loop
 returns c =
@@ -64,14 +40,14 @@ move-down-spec =
     (tie.spec
     Inv-loop
     μ-loop
-    sub-to
+    (λ c. omega arith)
     loop-holds
-    add-d
-    slice-read-d
-    add-d-2
-    slice-write-d
-    add-i
-    loop-less
+    (λ c. omega arith)
+    (λ c. omega arith)
+    (λ c. omega arith)
+    (λ c. omega arith)
+    (λ c. omega arith)
+    (λ c. omega arith)
     loop-again
-    same-length
+    (λ c. omega arith)
     returns)

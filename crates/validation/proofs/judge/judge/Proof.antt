@@ -1,5 +1,5 @@
 -- The verdict chooses the answer.
-use Rattle.validation.specs.File.{judgement, judgedBy}
+use Rattle.validation.specs.Judgement.{judgement, judgedBy}
 use borrow.Author.Needs.{needs}
 use Rattle.validation.proofs.judge.judge.Statement.{statement}
 use Rattle.validation.proofs.judge.judge.Tie as tie

@@ -2,8 +2,8 @@
 use mathlib.Core.Path.{sym, _∙_}
 use Rattle.layout.specs.Header.{headerRule}
 use Rattle.layout.specs.Banks.{offsetsRule, banksRule}
-use Rattle.validation.specs.File.{contactsRule, channelsRule, fileRule}
-use Rattle.validation.proofs.FileLaws.{fromContacts, fromChannels, fromOffsets, file-long, file-fits, goes-on, stops}
+use Rattle.file_rule.specs.File.{contactsRule, channelsRule, fileRule}
+use Rattle.file_rule.proofs.FileLaws.{fromContacts, fromChannels, fromOffsets, file-long, file-fits, goes-on, stops}
 use native.Mathlib.Omega.{arith}
 use borrow.Author.Needs.{needs}
 use Rattle.validation.proofs.judge.verdict_on.Statement.{statement}

@@ -1,0 +1,2 @@
+-- Answers of the C interface that are numbers alone.
+pub mod Numbers

@@ -1,0 +1,128 @@
+// A refusal, and the answers of the C interface that are numbers alone: of the two calls, addresses and tones.
+use fields::rule::Verdict;
+use journal::answer::Answer;
+use m17::Decoded;
+use m17::Encoded;
+use tones::Frequency;
+use tones::ToneIndex;
+ghost use mathlib.Core.Path.{_≡_};
+ghost use Rattle.capi_numbers.specs.Numbers.{refusalOf, callAnswer, encodeAnswer, decodeAnswer, tenthsOf, indexNumber};
+
+// A refusal's number, 0 for none, and its place. Every answer that is a structure begins with one.
+#[repr(C)]
+pub struct Refusal {
+    pub number: u8,
+    pub place: usize,
+}
+
+pub const GOOD: Refusal = Refusal {
+    number: 0,
+    place: 0,
+};
+
+pub fn refusal_of(v: Verdict) -> Refusal
+    ensures { λ r. ⌜ r ≡ refusalOf v ⌝ }
+{
+    match v {
+        Verdict::Good => GOOD,
+        Verdict::Refused(number, place) => Refusal { number, place },
+    }
+}
+
+// Both new lengths and the number of entries left; 0 beside a refusal.
+#[repr(C)]
+pub struct CallAnswer {
+    pub refusal: Refusal,
+    pub length: usize,
+    pub used: usize,
+    pub entries: usize,
+}
+
+pub fn call_answer(a: Answer) -> CallAnswer
+    ensures { λ r. ⌜ r ≡ callAnswer a ⌝ }
+{
+    match a {
+        Answer::Done(length, used, entries) => CallAnswer {
+            refusal: GOOD,
+            length,
+            used,
+            entries,
+        },
+        Answer::Refused(number, place) => CallAnswer {
+            refusal: Refusal { number, place },
+            length: 0,
+            used: 0,
+            entries: 0,
+        },
+    }
+}
+
+// A callsign's address number; 0 beside a refusal.
+#[repr(C)]
+pub struct EncodeAnswer {
+    pub refusal: Refusal,
+    pub address: u64,
+}
+
+pub fn encode_answer(e: Encoded) -> EncodeAnswer
+    ensures { λ r. ⌜ r ≡ encodeAnswer e ⌝ }
+{
+    match e {
+        Encoded::Number(address) => EncodeAnswer {
+            refusal: GOOD,
+            address,
+        },
+        Encoded::Refused(number, place) => EncodeAnswer {
+            refusal: Refusal { number, place },
+            address: 0,
+        },
+    }
+}
+
+// The length of an address number's text; broadcast has none.
+#[repr(C)]
+pub struct DecodeAnswer {
+    pub refusal: Refusal,
+    pub length: usize,
+    pub broadcast: bool,
+}
+
+pub fn decode_answer(d: Decoded) -> DecodeAnswer
+    ensures { λ r. ⌜ r ≡ decodeAnswer d ⌝ }
+{
+    match d {
+        Decoded::Text(length) => DecodeAnswer {
+            refusal: GOOD,
+            length,
+            broadcast: false,
+        },
+        Decoded::Broadcast => DecodeAnswer {
+            refusal: GOOD,
+            length: 0,
+            broadcast: true,
+        },
+        Decoded::Refused(number, place) => DecodeAnswer {
+            refusal: Refusal { number, place },
+            length: 0,
+            broadcast: false,
+        },
+    }
+}
+
+pub fn tenths_of(f: Frequency) -> u16
+    ensures { λ r. ⌜ r ≡ tenthsOf f ⌝ }
+{
+    match f {
+        Frequency::Tenths(t) => t,
+        Frequency::NoTone => 0,
+    }
+}
+
+pub fn index_number(i: ToneIndex) -> u8
+    ensures { λ r. ⌜ r ≡ indexNumber i ⌝ }
+{
+    match i {
+        ToneIndex::Index(i) => i,
+        ToneIndex::NoIndex => 255,
+    }
+}

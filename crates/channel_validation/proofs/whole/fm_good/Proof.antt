@@ -1,0 +1,25 @@
+-- Every field lies inside a whole record, so what is left of the rule is its tests.
+use Rattle.fields.proofs.Laws.{good-both, good-field}
+use Rattle.channel.specs.Rule.{fmRule}
+use borrow.Author.Needs.{needs}
+use Rattle.channel_validation.proofs.whole.fm_good.Statement.{statement}
+use Rattle.channel_validation.proofs.whole.fm_good.Tie as tie
+
+returns : tie.Need-returns
+unfolding fmRule
+returns c base =
+    let whole = c .before .before .before .before .before .before .before .before .pre in
+    rw (c .tone-ok2 .ensures, c .before .before .tone-ok .ensures) (simp (good-both, good-field, whole))
+
+pub fm-good-spec : {M : Type 1} → statement M
+fm-good-spec =
+    tie.close
+    (tie.spec
+    (search needs)
+    (search needs)
+    (search needs)
+    (search needs)
+    (search needs)
+    (search needs)
+    (search needs)
+    returns)

@@ -1,0 +1,83 @@
+// Whether a whole channel is good: what `judge` answers, but for number and place. Nothing branches on the record's bytes, so that
+// bytes which the processor has not learnt cost no more than others.
+use channel::values::fraction_ok;
+use channel::values::latitude_fraction_ok;
+use channel::values::latitude_ok;
+use channel::values::operation_ok;
+use channel::values::slot_ok;
+use fields::numbers::le16;
+use fields::rule::pick;
+use text::text_ok;
+use tones::tone_ok;
+ghost use mathlib.Core.Path.{_≡_};
+ghost use Prim.Native.Nat.{ℕ};
+ghost use lib.ListN.{length};
+ghost use Rattle.fields.specs.Rule.{isGood};
+ghost use Rattle.channel.specs.Rule.{headRule, textsRule, locationRule, fmRule, dmrRule, m17Rule, infoRule, channelRule};
+
+fn head_good(s: &[u8]) -> bool
+    requires { ⌜ length (now s) ≡ 90 ⌝ }
+    ensures { λ r. ⌜ ((base : ℕ) → r ≡ isGood (headRule (now (s .entry)) base)) ⌝ }
+{
+    (s[0] <= 2) & (bits::choice_ok(s[1]) & ((s[11] <= 250) & (s[12] <= 128)))
+}
+
+fn texts_good(s: &[u8]) -> bool
+    requires { ⌜ length (now s) ≡ 90 ⌝ }
+    ensures { λ r. ⌜ ((base : ℕ) → r ≡ isGood (textsRule (now (s .entry)) base)) ⌝ }
+{
+    text_ok(&s[13..45]) & text_ok(&s[45..77])
+}
+
+fn location_good(s: &[u8]) -> bool
+    requires { ⌜ length (now s) ≡ 90 ⌝ }
+    ensures { λ r. ⌜ ((base : ℕ) → r ≡ isGood (locationRule (now (s .entry)) base)) ⌝ }
+{
+    let floor = s[77];
+    let above = latitude_fraction_ok(floor, le16(s, 78));
+    let beyond = fraction_ok(le16(s, 81));
+    latitude_ok(floor) & (above & beyond)
+}
+
+fn fm_good(s: &[u8]) -> bool
+    requires { ⌜ length (now s) ≡ 90 ⌝ }
+    ensures { λ r. ⌜ ((base : ℕ) → r ≡ isGood (fmRule (now (s .entry)) base)) ⌝ }
+{
+    let pads = (s[87] == 0) & ((s[88] == 0) & (s[89] == 0));
+    tone_ok(s[85]) & (tone_ok(s[86]) & pads)
+}
+
+fn dmr_good(s: &[u8], named: bool) -> bool
+    requires { ⌜ length (now s) ≡ 90 ⌝ }
+    ensures { λ r. ⌜ ((base : ℕ) → r ≡ isGood (dmrRule (now (s .entry)) base named)) ⌝ }
+{
+    slot_ok(s[86]) & (named & (s[89] == 0))
+}
+
+fn m17_good(s: &[u8], named: bool) -> bool
+    requires { ⌜ length (now s) ≡ 90 ⌝ }
+    ensures { λ r. ⌜ ((base : ℕ) → r ≡ isGood (m17Rule (now (s .entry)) base named)) ⌝ }
+{
+    let h = bits::halves_of(s[86]);
+    operation_ok(h.high, h.low) & ((s[87] <= 1) & named)
+}
+
+// All three modes are judged, and the channel's own is picked.
+fn info_good(s: &[u8], named: bool) -> bool
+    requires { ⌜ length (now s) ≡ 90 ⌝ }
+    ensures { λ r. ⌜ ((base : ℕ) → r ≡ isGood (infoRule (now (s .entry)) base named)) ⌝ }
+{
+    let digital = pick(s[0] == channel::DMR, dmr_good(s, named), m17_good(s, named));
+    pick(s[0] == channel::FM, fm_good(s), digital)
+}
+
+// Of a channel's 90 bytes. Whether its contact index names a contact of the file comes in as `named`.
+pub fn good(s: &[u8], named: bool) -> bool
+    requires { ⌜ length (now s) ≡ 90 ⌝ }
+    ensures { λ r. ⌜ ((base : ℕ) → r ≡ isGood (channelRule (now (s .entry)) base named)) ⌝ }
+{
+    let head = head_good(s);
+    let texts = texts_good(s);
+    let location = location_good(s);
+    head & (texts & (location & info_good(s, named)))
+}

@@ -1,0 +1,59 @@
+// Answers the cases of a corpus of files judged, contacts read and texts to numbers on standard input, one line each, as the second program
+// writes them (second/README.md).
+mod contacts; // contacts.rt: contacts read
+mod input; // input.rt: a case
+mod print; // print.rt: words, numbers and bytes
+
+use fields::numbers::byte_at;
+use layout::places::lend;
+use m17::Encoded;
+use validation::Judged;
+
+fn judge(file: &[u8]) {
+    match validation::judge::judge(file) {
+        Judged::Accepted(c) => {
+            print::number(b"ok ", c.contacts as u64);
+            print::number(b" ", c.channels as u64);
+            print::number(b" ", c.banks as u64);
+        }
+        Judged::Refused(n, p) => print::refused(n, p),
+    }
+}
+
+fn encode(text: &[u8]) {
+    match m17_encoder::encode(text) {
+        Encoded::Number(n) => print::number(b"number ", n),
+        Encoded::Refused(n, p) => print::refused(n, p),
+    }
+}
+
+// By the sort that the first byte of a case says. Behind it stands a file, or a byte that says "read" and a record or text.
+fn answer(case: &[u8]) {
+    let sort = byte_at(case, 0);
+    if sort == 0 {
+        judge(lend(case, 1, 65536));
+    } else if sort == 1 {
+        contacts::read(lend(case, 2, 65536));
+    } else {
+        encode(lend(case, 2, 65536));
+    }
+}
+
+// Whether there was a case.
+fn one_case(buffer: &mut [u8]) -> bool {
+    let n = input::case(buffer);
+    if n == 0 {
+        return false;
+    }
+    answer(&buffer[..n]);
+    print::word(b"\n");
+    true
+}
+
+fn main() {
+    let mut buffer = io::large_buffer();
+    let mut turns = 0u32;
+    while turns < 1_000_000 && one_case(&mut buffer) {
+        turns += 1;
+    }
+}

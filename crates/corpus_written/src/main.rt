@@ -1,0 +1,79 @@
+// Answers the cases of a corpus of records written and numbers to texts on standard input, one line each, as the second program writes them
+// (second/README.md).
+mod channels; // channels.rt: a channel to write
+mod contacts; // contacts.rt: a contact to write
+mod input; // input.rt: a case
+mod print; // print.rt: words, numbers and bytes
+mod strings; // strings.rt: the strings in a case
+
+use crate::strings::past_string;
+use crate::strings::put_first;
+use crate::strings::string;
+use fields::numbers::byte_at;
+use fields::numbers::le64;
+use fields::rule::Verdict;
+use layout::places::lend;
+use m17::Decoded;
+ghost use Prim.Native.Nat.{_<_};
+
+fn decoded(d: Decoded) {
+    match d {
+        Decoded::Text(_) => print::word(b"text"),
+        Decoded::Broadcast => print::word(b"broadcast"),
+        Decoded::Refused(n, p) => print::refused(n, p),
+    }
+}
+
+// A number's text, over a buffer.
+fn decode(n: u64, out: &mut [u8]) {
+    decoded(m17_decoder::decode(n, out));
+    print::buffer(out);
+}
+
+// The record that stands in a case from k on, over a buffer.
+fn record(case: &[u8], k: usize, out: &mut [u8]) -> Verdict
+    requires { ⌜ k < 300 ⌝ }
+{
+    if byte_at(case, 0) == 1 {
+        return contacts::write(case, k, out);
+    }
+    channels::write(case, k, out)
+}
+
+// The same, with its line.
+fn write(case: &[u8], k: usize, out: &mut [u8])
+    requires { ⌜ k < 300 ⌝ }
+{
+    print::verdict(record(case, k, out));
+    print::buffer(out);
+}
+
+// A record stands behind the output buffer before the call, a number before the text buffer.
+fn answer(case: &[u8], room: &mut [u8]) {
+    if byte_at(case, 0) < 3 {
+        let n = put_first(room, string(case, 2));
+        write(case, past_string(case, 2), &mut room[..n]);
+    } else {
+        let n = put_first(room, lend(case, 10, 65536));
+        decode(le64(case, 2), &mut room[..n]);
+    }
+}
+
+// Whether there was a case.
+fn one_case(buffer: &mut [u8], room: &mut [u8]) -> bool {
+    let n = input::case(buffer);
+    if n == 0 {
+        return false;
+    }
+    answer(&buffer[..n], room);
+    true
+}
+
+fn main() {
+    let mut buffer = io::buffer();
+    let mut room = io::buffer();
+    let mut turns = 0u32;
+    while turns < 1_000_000 && one_case(&mut buffer, &mut room) {
+        turns += 1;
+    }
+}

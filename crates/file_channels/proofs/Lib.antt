@@ -1,0 +1,2 @@
+-- Laws of a channel's contact index.
+pub mod WholeLaws

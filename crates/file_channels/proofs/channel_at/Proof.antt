@@ -1,0 +1,23 @@
+-- Where the test says yes nothing is refused; else the fields answer.
+use mathlib.Core.Path.{sym, _∙_}
+use Rattle.fields.proofs.Laws.{good-told}
+use borrow.Author.Needs.{needs}
+use Rattle.file_channels.proofs.channel_at.Statement.{statement}
+use Rattle.file_channels.proofs.channel_at.Tie as tie
+
+returns : tie.Need-returns
+returns c = sym (good-told _ (sym (c .before .channel-good .ensures) ∙ c .if2 .taken))
+
+returns-2 : tie.Need-returns-2
+returns-2 c = search needs
+
+pub channel-at-spec : {M : Type 1} → statement M
+channel-at-spec =
+    tie.close
+    (tie.spec
+    (search needs)
+    (search needs)
+    (search needs)
+    returns
+    (search needs)
+    returns-2)

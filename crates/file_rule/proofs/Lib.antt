@@ -1,0 +1,3 @@
+-- Laws of the whole file.
+pub mod Laws
+pub mod FileLaws

@@ -1,0 +1,2 @@
+-- The codeplug file: what is accepted.
+pub mod File

@@ -1,0 +1,1 @@
+// The rule of the whole file: definitions and theory, without code.

@@ -1,0 +1,2 @@
+-- Laws of the sum of a text's digits.
+pub mod SumLaws

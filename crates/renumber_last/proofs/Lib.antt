@@ -1,0 +1,2 @@
+-- Laws of the last index that moves.
+pub mod LastLaws

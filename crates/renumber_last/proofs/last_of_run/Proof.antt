@@ -1,0 +1,53 @@
+-- The invariant: the last entry that moves among i entries.
+use Rattle.renumber_last.proofs.LastLaws.{last-none, last-from, run-last-turn}
+use Rattle.plug.specs.Plug.{pairs, indexesAt}
+use mathlib.Core.List.{map}
+use Rattle.renumber_last.specs.Last.{LastMoved}
+use Rattle.renumber.specs.Shift.{shiftOf}
+use Rattle.fields.specs.Bytes.{over}
+use mathlib.Core.Path.{_≡_, ap}
+use Prim.Native.Nat.{ℕ, _+_, _*_, _-_, _≤_}
+use borrow.Author.Needs.{needs}
+use native.Mathlib.Omega.{arith}
+use Rattle.renumber_last.proofs.last_of_run.Statement.{statement}
+use Rattle.renumber_last.proofs.last_of_run.Tie as tie
+
+abbrev Inv-loop : tie.InvT-loop
+Inv-loop f start n s last₀ i₀ p₀ last i p = (i ≤ n) × ((p ≡ start + i * 2) × LastMoved (shiftOf s) f (over f start (pairs (map (shiftOf s) (indexesAt f i start)))) start last)
+
+abbrev μ-loop : tie.MeasureT-loop
+μ-loop f start n s last₀ i₀ p₀ last i p = n - i
+
+loop-holds : tie.Need-loop-holds Inv-loop μ-loop
+unfolding pairs indexesAt
+loop-holds c = (omega arith, (omega arith, last-none _ _ _))
+
+loop-again : tie.Need-loop-again Inv-loop μ-loop
+loop-again c =
+    let r = c .before in
+    let l = r .before .before in
+    let a = l .before .before .args in
+    let next = run-last-turn (shiftOf (a .s)) (a .f .now) (a .start) (l .loop .i) (l .loop .p) (l .loop .last) (r .moves-at .result) (c .later .result) (omega arith) (omega arith) (l .loop .inv .1 .1) (r .moves-at .ensures) (c .later .ensures) in
+    (omega arith, (omega arith, next))
+
+returns : tie.Need-returns Inv-loop μ-loop
+returns c =
+    let l = c .before .loop in
+    let a = c .before .before .before .args in
+    let e : l .i ≡ a .n = omega arith in
+    last-from _ _ _ _ _ _ _ (omega arith) (ap (λ (k : ℕ). over (a .f .now) (a .start) (pairs (map (shiftOf (a .s)) (indexesAt (a .f .now) k (a .start))))) e) (l .inv .1 .1)
+
+pub last-of-run-spec : {M : Type 1} → statement M
+last-of-run-spec =
+    tie.close
+    (tie.spec
+    Inv-loop
+    μ-loop
+    loop-holds
+    (λ c κs. omega arith)
+    (search needs)
+    (λ c. omega arith)
+    (λ c. omega arith)
+    (λ c. omega arith)
+    loop-again
+    returns)

@@ -1,4 +1,0 @@
--- Laws of the whole file.
-pub mod FileLaws
-pub mod Laws
-pub mod WholeLaws
