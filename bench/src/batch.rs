@@ -39,35 +39,36 @@ impl Batch {
             .collect()
     }
 
-    /// The batch after an edit of each file.
-    pub fn edited(&self, edits: &[Edit]) -> Batch {
+    /// The batch after an edit of each file, by some makers, which have to agree.
+    pub fn edited(&self, makers: &[Maker], edits: &[Edit]) -> Batch {
         let sets = self
             .sets
             .iter()
             .zip(edits)
-            .map(|(set, edit)| made(set, Some(edit)))
+            .map(|(set, edit)| made(makers, set, Some(edit)))
             .collect();
         Batch { sets }
     }
 
     /// Tries an undo in each file.
-    pub fn try_undo(&self) {
+    pub fn try_undo(&self, makers: &[Maker]) {
         for set in &self.sets {
-            made(set, None);
+            made(makers, set, None);
         }
     }
 }
 
-/// Median nanoseconds per byte of the three, for each batch; all of them interleaved.
-pub fn per_byte<'a, T: Timed>(
+/// Median nanoseconds per byte of some makers, for each batch; all of them interleaved.
+pub fn per_byte<'a, T: Timed, const N: usize>(
     runs: usize,
     batches: &'a [Batch],
+    makers: [Maker; N],
     make: impl Fn(usize, &'a [Set], Maker) -> T,
-) -> Vec<[f64; 3]> {
+) -> Vec<[f64; N]> {
     let all = batches.iter().enumerate();
-    let timed = all.flat_map(|(n, batch)| MAKERS.map(|maker| make(n, &batch.sets, maker)));
+    let timed = all.flat_map(|(n, batch)| makers.map(|maker| make(n, &batch.sets, maker)));
     let times = medians(runs, timed.collect());
-    let by_batch = times.as_chunks::<3>().0.iter().zip(batches);
+    let by_batch = times.as_chunks::<N>().0.iter().zip(batches);
     by_batch
         .map(|(times, batch)| times.map(|time| time / batch.bytes() as f64))
         .collect()
@@ -80,23 +81,26 @@ fn opened(size: usize, seed: u64) -> Set {
         past: Buffer::new(&[], 2 * size),
     };
     for edit in cases::earlier(&file) {
-        set = made(&set, Some(&edit));
+        set = made(&MAKERS, &set, Some(&edit));
     }
     set
 }
 
-/// Makes a call, or an undo, by all three: they must agree in the answer and in every byte of both buffers.
-fn made(set: &Set, edit: Option<&Edit>) -> Set {
-    let [a, b, c] = MAKERS.map(|maker| {
-        let mut set = set.clone();
-        let answer = match edit {
-            Some(edit) => maker.edit(&mut set, edit),
-            None => maker.undo(&mut set),
-        };
-        let answer = answer.expect("accepted");
-        set.grown(&answer);
-        (answer, set)
-    });
-    assert!(a == b && b == c, "the three differ");
-    a.1
+/// Makes a call, or an undo, by some makers: they must agree in the answer and in every byte of both buffers.
+fn made(makers: &[Maker], set: &Set, edit: Option<&Edit>) -> Set {
+    let made: Vec<_> = makers
+        .iter()
+        .map(|maker| {
+            let mut set = set.clone();
+            let answer = match edit {
+                Some(edit) => maker.edit(&mut set, edit),
+                None => maker.undo(&mut set),
+            };
+            let answer = answer.expect("accepted");
+            set.grown(&answer);
+            (answer, set)
+        })
+        .collect();
+    assert!(made.iter().all(|one| *one == made[0]), "they differ");
+    made[0].1.clone()
 }

@@ -1,10 +1,12 @@
 //! Times the proved library, through its C interface, beside plain Rust: the second program, and a leaner path.
 
+mod against;
 mod batch;
 mod cases;
 mod files;
 mod heap;
 mod lean;
+mod library;
 mod makers;
 mod plot;
 mod profile;
@@ -22,8 +24,9 @@ fn main() {
     match words[..] {
         [] => table::print(),
         ["addresses"] => table::print_addresses(),
+        ["against", this, other] => against::print(this, other),
         ["plot", path] => plot::write(path),
         ["profile", maker, what, kind, times] => profile::run(maker, what, number(kind), number(times)),
-        _ => eprintln!("usage: bench/run [addresses | plot FILE.svg | profile proved|second|lean judge|read|edit|undo KIND TIMES]"),
+        _ => eprintln!("usage: bench/run [addresses | against THIS.so OTHER.so | plot FILE.svg | profile proved|second|lean judge|read|edit|undo KIND TIMES]"),
     }
 }

@@ -1,21 +1,22 @@
 //! The three that are timed, behind one face.
 
 use crate::lean;
+use crate::library::{Library, LINKED};
 use codeplug::c;
 use obcf_second::edit::{Answer, Edit};
 use obcf_second::Refusal;
 
-#[derive(Clone, Copy, PartialEq, Eq)]
+#[derive(Clone, Copy)]
 pub enum Maker {
     /// The proved library, through the C interface.
-    Proved,
+    Proved(&'static Library),
     /// The second program as it stands.
     Second,
     /// Plain Rust written for speed (lean/).
     Lean,
 }
 
-pub const MAKERS: [Maker; 3] = [Maker::Proved, Maker::Second, Maker::Lean];
+pub const MAKERS: [Maker; 3] = [Maker::Proved(&LINKED), Maker::Second, Maker::Lean];
 
 /// A file or a history in a buffer with spare bytes.
 #[derive(Clone, PartialEq, Eq)]
@@ -80,8 +81,8 @@ impl Maker {
         let (room, past) = (&mut set.room.bytes, &mut set.past.bytes);
         match self {
             // Both buffers are lent whole, with their sizes.
-            Maker::Proved => answer(unsafe {
-                c::codeplug_edit(
+            Maker::Proved(library) => answer(unsafe {
+                (library.codeplug_edit)(
                     room.as_mut_ptr(),
                     room.len(),
                     length,
@@ -104,8 +105,8 @@ impl Maker {
         let (length, used) = (set.room.length, set.past.length);
         let (room, past) = (&mut set.room.bytes, &mut set.past.bytes);
         match self {
-            Maker::Proved => answer(unsafe {
-                c::codeplug_undo(
+            Maker::Proved(library) => answer(unsafe {
+                (library.codeplug_undo)(
                     room.as_mut_ptr(),
                     room.len(),
                     length,
@@ -121,8 +122,8 @@ impl Maker {
 
     pub fn judge(self, file: &[u8]) -> Result<[u16; 3], Refusal> {
         let counts = match self {
-            Maker::Proved => {
-                let a = unsafe { c::codeplug_judge(file.as_ptr(), file.len()) };
+            Maker::Proved(library) => {
+                let a = unsafe { (library.codeplug_judge)(file.as_ptr(), file.len()) };
                 return match a.number {
                     0 => Ok([a.contacts, a.channels, a.banks]),
                     number => Err(Refusal {

@@ -19,14 +19,17 @@ fn measure() -> [Vec<Point>; 3] {
     let edited: Vec<Batch> = batches
         .iter()
         .zip(&edits)
-        .map(|(batch, edits)| batch.edited(edits))
+        .map(|(batch, edits)| batch.edited(&MAKERS, edits))
         .collect();
     let times = [
-        per_byte(RUNS, &batches, |_, sets, maker| Judging { maker, sets }),
-        per_byte(RUNS, &batches, |n, sets, maker| {
+        per_byte(RUNS, &batches, MAKERS, |_, sets, maker| Judging {
+            maker,
+            sets,
+        }),
+        per_byte(RUNS, &batches, MAKERS, |n, sets, maker| {
             Calling::new(maker, sets, Some(&edits[n]))
         }),
-        per_byte(RUNS, &edited, |_, sets, maker| {
+        per_byte(RUNS, &edited, MAKERS, |_, sets, maker| {
             Calling::new(maker, sets, None)
         }),
     ];
@@ -74,7 +77,7 @@ fn y(microseconds: f64) -> f64 {
 
 fn look(maker: Maker) -> (&'static str, &'static str, &'static str) {
     match maker {
-        Maker::Proved => ("proved library", "#0b5cad", ""),
+        Maker::Proved(_) => ("proved library", "#0b5cad", ""),
         Maker::Second => ("second program", "#c2410c", "7 4"),
         Maker::Lean => ("lean plain Rust", "#4b5563", "2 3"),
     }

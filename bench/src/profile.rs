@@ -1,7 +1,7 @@
 //! One case again and again by one of the three, for a profiler.
 
 use crate::batch::Batch;
-use crate::makers::Maker;
+use crate::makers::{Maker, MAKERS};
 use crate::timing::Timed;
 use crate::work::{Calling, Judging, Reading};
 
@@ -10,7 +10,7 @@ const SIZE: usize = 1 << 20;
 /// `judge`, `read`, `edit KIND` or `undo KIND` (in the middle of its list), by `proved`, `second` or `lean`.
 pub fn run(maker: &str, what: &str, kind: usize, times: usize) {
     let maker = match maker {
-        "proved" => Maker::Proved,
+        "proved" => MAKERS[0],
         "second" => Maker::Second,
         _ => Maker::Lean,
     };
@@ -25,7 +25,10 @@ pub fn run(maker: &str, what: &str, kind: usize, times: usize) {
         "judge" => repeat(times, Judging { maker, sets }),
         "read" => repeat(times, Reading { maker, sets }),
         "edit" => repeat(times, Calling::new(maker, sets, Some(edits))),
-        _ => repeat(times, Calling::new(maker, &batch.edited(edits).sets, None)),
+        _ => repeat(
+            times,
+            Calling::new(maker, &batch.edited(&MAKERS, edits).sets, None),
+        ),
     }
 }
 

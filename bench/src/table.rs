@@ -1,7 +1,7 @@
 //! The table of times.
 
 use crate::batch::{per_byte, Batch};
-use crate::makers::MAKERS;
+use crate::makers::{Maker, MAKERS};
 use crate::timing::medians;
 use crate::work::{Calling, Decoding, Encoding, Judging, Listing, Reading};
 use obcf_second::address::number_to_text;
@@ -10,68 +10,84 @@ use obcf_second::sample::{self, Rng};
 
 const RUNS: usize = 41;
 
-/// A row's name and its medians, for each batch: proved, second, lean.
-type Row = (String, Vec<[f64; 3]>);
+/// A row's name and the medians of some makers, for each batch.
+pub type Row<const N: usize> = (String, Vec<[f64; N]>);
 
-/// Nanoseconds per byte of everything that a file is put through.
-fn rows(batches: &[Batch]) -> Vec<Row> {
-    let mut rows = vec![
-        (
-            "judge".to_string(),
-            per_byte(RUNS, batches, |_, sets, maker| Judging { maker, sets }),
-        ),
-        (
-            "judge, beside a reader".to_string(),
-            per_byte(RUNS, batches, |_, sets, maker| Listing { maker, sets }),
-        ),
-        (
-            "read every record".to_string(),
-            per_byte(RUNS, batches, |_, sets, maker| Reading { maker, sets }),
-        ),
-    ];
+/// Nanoseconds per byte of judging and reading.
+fn reading<const N: usize>(batches: &[Batch], makers: [Maker; N]) -> Vec<Row<N>> {
+    let judge = per_byte(RUNS, batches, makers, |_, sets, maker| Judging {
+        maker,
+        sets,
+    });
+    let list = per_byte(RUNS, batches, makers, |_, sets, maker| Listing {
+        maker,
+        sets,
+    });
+    let read = per_byte(RUNS, batches, makers, |_, sets, maker| Reading {
+        maker,
+        sets,
+    });
+    vec![
+        ("judge".to_string(), judge),
+        ("judge, beside a reader".to_string(), list),
+        ("read every record".to_string(), read),
+    ]
+}
+
+/// Of an edit of each file, and of its undo.
+fn calling<const N: usize>(
+    name: &str,
+    batches: &[Batch],
+    edits: &[&[Edit]],
+    makers: [Maker; N],
+) -> [Row<N>; 2] {
+    let both = batches.iter().zip(edits);
+    let edited: Vec<Batch> = both
+        .map(|(batch, edits)| batch.edited(&makers, edits))
+        .collect();
+    edited.iter().for_each(|batch| batch.try_undo(&makers));
+    let edit = per_byte(RUNS, batches, makers, |n, sets, maker| {
+        Calling::new(maker, sets, Some(edits[n]))
+    });
+    let undo = per_byte(RUNS, &edited, makers, |_, sets, maker| {
+        Calling::new(maker, sets, None)
+    });
+    [
+        (name.to_string(), edit),
+        (format!("undo {}", name.trim()), undo),
+    ]
+}
+
+/// Of everything that a file is put through, or of the edits alone that `chosen` names.
+pub fn rows<const N: usize>(
+    batches: &[Batch],
+    makers: [Maker; N],
+    chosen: impl Fn(&str) -> bool,
+) -> Vec<Row<N>> {
+    let mut rows = reading(batches, makers);
     let cases: Vec<_> = batches.iter().map(Batch::cases).collect();
     let mut undos = Vec::new();
     for (n, (case, _)) in cases[0].iter().enumerate() {
-        let edits: Vec<&[Edit]> = cases.iter().map(|cases| cases[n].1.as_slice()).collect();
-        let edited: Vec<Batch> = batches
-            .iter()
-            .zip(&edits)
-            .map(|(batch, edits)| batch.edited(edits))
-            .collect();
-        edited.iter().for_each(Batch::try_undo);
-        rows.push((
-            case.name.clone(),
-            per_byte(RUNS, batches, |n, sets, maker| {
-                Calling::new(maker, sets, Some(edits[n]))
-            }),
-        ));
-        undos.push((
-            format!("undo {}", case.name.trim()),
-            per_byte(RUNS, &edited, |_, sets, maker| {
-                Calling::new(maker, sets, None)
-            }),
-        ));
+        if chosen(&case.name) {
+            let edits: Vec<&[Edit]> = cases.iter().map(|cases| cases[n].1.as_slice()).collect();
+            let [edit, undo] = calling(&case.name, batches, &edits, makers);
+            rows.push(edit);
+            undos.push(undo);
+        }
     }
     rows.extend(undos);
     rows
 }
 
 /// One file of 64 KiB again and again, which caches and branch predictor learn.
-fn learnt() -> Vec<Row> {
-    let names = [
-        "judge",
-        "judge, beside a reader",
-        "read every record",
-        " 6 replace channel middle",
-        "undo 6 replace channel middle",
-    ];
-    let mut rows = rows(&[Batch::new(64 << 10, 1)]);
-    rows.retain(|row| names.contains(&row.0.as_str()));
-    rows
+pub fn learnt<const N: usize>(makers: [Maker; N]) -> Vec<Row<N>> {
+    rows(&[Batch::new(64 << 10, 1)], makers, |name| {
+        name == " 6 replace channel middle"
+    })
 }
 
 /// Nanoseconds per call.
-fn addresses() -> Vec<Row> {
+pub fn addresses<const N: usize>(makers: [Maker; N]) -> Vec<Row<N>> {
     let rng = &mut Rng::new(40);
     let numbers: Vec<u64> = (0..8_192).map(|_| sample::callsign_number(rng)).collect();
     let texts: Vec<Vec<u8>> = numbers
@@ -83,9 +99,9 @@ fn addresses() -> Vec<Row> {
         })
         .collect();
     let (texts, numbers) = (&texts, &numbers);
-    let encoding = MAKERS.map(|maker| Encoding { maker, texts });
-    let decoding = MAKERS.map(|maker| Decoding { maker, numbers });
-    let each = |times: Vec<f64>| vec![[0, 1, 2].map(|n| times[n] / numbers.len() as f64)];
+    let encoding = makers.map(|maker| Encoding { maker, texts });
+    let decoding = makers.map(|maker| Decoding { maker, numbers });
+    let each = |times: Vec<f64>| vec![std::array::from_fn(|n| times[n] / numbers.len() as f64)];
     vec![
         (
             "callsign to address".to_string(),
@@ -109,13 +125,17 @@ fn cells([proved, second, lean]: [f64; 3], digits: usize) -> String {
 /// The table's last part alone.
 pub fn print_addresses() {
     println!("{:30} | {:^32} |", "", "ns per call");
-    for (name, times) in addresses() {
+    for (name, times) in addresses(MAKERS) {
         println!("{name:30} | {} |", cells(times[0], 1));
     }
 }
 
 pub fn print() {
-    let rows = rows(&[Batch::whole(64 << 10), Batch::whole(1 << 20)]);
+    let rows = rows(
+        &[Batch::whole(64 << 10), Batch::whole(1 << 20)],
+        MAKERS,
+        |_| true,
+    );
     let group = "proved second   lean    /s    /l";
     println!(
         "{:30} | {:^32} | {:^32} | {:^20}",
@@ -134,7 +154,7 @@ pub fn print() {
         );
     }
     println!("\n{:30} | {:^32} |", "", "one file of 64 KiB, learnt");
-    for (name, times) in learnt() {
+    for (name, times) in learnt(MAKERS) {
         println!("{name:30} | {} |", cells(times[0], 3));
     }
     println!();

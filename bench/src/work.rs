@@ -1,9 +1,9 @@
 //! What is timed, for each of the three: one call takes each file of a batch in turn.
 
 use crate::lean;
+use crate::library::Library;
 use crate::makers::{Maker, Set};
 use crate::timing::Timed;
-use codeplug::c;
 use obcf_second::address::{number_to_text, text_to_number};
 use obcf_second::edit::Edit;
 use obcf_second::Codeplug;
@@ -33,7 +33,7 @@ impl Timed for Listing<'_> {
         for set in self.sets {
             let file = black_box(set.file());
             match self.maker {
-                Maker::Proved => {
+                Maker::Proved(_) => {
                     black_box(self.maker.judge(file)).expect("accepted");
                 }
                 Maker::Second => drop(black_box(Codeplug::read(file)).expect("accepted")),
@@ -54,7 +54,7 @@ impl Timed for Reading<'_> {
         for set in self.sets {
             let file = black_box(set.file());
             match self.maker {
-                Maker::Proved => read_proved(file),
+                Maker::Proved(library) => read_proved(library, file),
                 Maker::Second => drop(black_box(Codeplug::read(file)).expect("accepted")),
                 Maker::Lean => lean::read::read_all(file).expect("accepted"),
             }
@@ -62,24 +62,24 @@ impl Timed for Reading<'_> {
     }
 }
 
-fn read_proved(file: &[u8]) {
+fn read_proved(c: &Library, file: &[u8]) {
     let (at, length) = (file.as_ptr(), file.len());
     let mut texts = [0; 64];
     let into = texts.as_mut_ptr();
     // Pointers and lengths are those of `file` and `texts`.
     unsafe {
-        let counts = c::codeplug_judge(at, length);
+        let counts = (c.codeplug_judge)(at, length);
         assert_eq!(counts.number, 0);
         for n in 0..usize::from(counts.contacts) {
-            black_box(&c::codeplug_contact_once(at, length, n, into, 32));
+            black_box(&(c.codeplug_contact_once)(at, length, n, into, 32));
         }
         for n in 0..usize::from(counts.channels) {
-            black_box(&c::codeplug_channel_once(at, length, n, into, 64));
+            black_box(&(c.codeplug_channel_once)(at, length, n, into, 64));
         }
         for n in 0..usize::from(counts.banks) {
-            let bank = c::codeplug_bank_once(at, length, n, into, 32);
+            let bank = (c.codeplug_bank_once)(at, length, n, into, 32);
             for i in 0..usize::from(bank.entries) {
-                black_box(&c::codeplug_bank_entry_once(at, length, n, i));
+                black_box(&(c.codeplug_bank_entry_once)(at, length, n, i));
             }
         }
     }
@@ -134,8 +134,8 @@ impl Timed for Encoding<'_> {
         for text in self.texts {
             let text = black_box(text.as_slice());
             match self.maker {
-                Maker::Proved => {
-                    black_box(&unsafe { c::codeplug_encode_callsign(text.as_ptr(), text.len()) });
+                Maker::Proved(c) => {
+                    black_box(&unsafe { (c.codeplug_encode_callsign)(text.as_ptr(), text.len()) });
                 }
                 Maker::Second => drop(black_box(text_to_number(text))),
                 Maker::Lean => drop(black_box(lean::address::encode(text))),
@@ -156,8 +156,10 @@ impl Timed for Decoding<'_> {
         for &number in self.numbers {
             let number = black_box(number);
             match self.maker {
-                Maker::Proved => {
-                    black_box(&unsafe { c::codeplug_decode_address(number, text.as_mut_ptr(), 9) });
+                Maker::Proved(c) => {
+                    black_box(&unsafe {
+                        (c.codeplug_decode_address)(number, text.as_mut_ptr(), 9)
+                    });
                 }
                 // The second program's way is short already.
                 _ => drop(black_box(number_to_text(number, &mut text))),

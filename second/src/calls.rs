@@ -20,25 +20,25 @@ pub fn case(rng: &mut Rng) -> (Vec<u8>, String) {
 }
 
 fn body(lent: &Lent, calls: &[Call]) -> Vec<u8> {
-    let mut case = Case::default()
+    let calls = calls.iter().fold(Case::default(), |case, call| match call {
+        Call::Undo => case.u8(0),
+        Call::Edit(edit) => case
+            .u8(1)
+            .raw(&edit.kind.to_le_bytes())
+            .raw(&(edit.first as u64).to_le_bytes())
+            .raw(&(edit.second as u64).to_le_bytes())
+            .bytes(&edit.record),
+    });
+    Case::default()
         .raw(&(lent.room.len() as u32).to_le_bytes())
-        .raw(&lent.length.to_le_bytes())
-        .raw(&lent.room)
         .raw(&(lent.history.len() as u32).to_le_bytes())
+        .raw(&(calls.0.len() as u32).to_le_bytes())
+        .raw(&lent.length.to_le_bytes())
         .raw(&lent.history_length.to_le_bytes())
-        .raw(&lent.history);
-    for call in calls {
-        case = match call {
-            Call::Undo => case.u8(0),
-            Call::Edit(edit) => case
-                .u8(1)
-                .raw(&edit.kind.to_le_bytes())
-                .raw(&(edit.first as u64).to_le_bytes())
-                .raw(&(edit.second as u64).to_le_bytes())
-                .bytes(&edit.record),
-        };
-    }
-    case.0
+        .raw(&lent.room)
+        .raw(&lent.history)
+        .raw(&calls.0)
+        .0
 }
 
 /// Makes the calls and gives their lines. Where a book can be opened over the

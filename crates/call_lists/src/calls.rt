@@ -6,39 +6,29 @@ use fields::numbers::le64;
 use journal::answer::Answer;
 use layout::places::lend;
 use undo::undo;
-ghost use Prim.Native.Nat.{_<_, _^_};
+ghost use Prim.Native.Nat.{_≤_, _<_, _^_};
 ghost use lib.ListN.{length};
 
-// The call at k: an undo, or an edit with its kind, places and record.
-fn call(
-    case: &[u8],
-    k: usize,
-    room: &mut [u8],
-    len: usize,
-    history: &mut [u8],
-    used: usize,
-) -> Answer
-    requires { ⌜ k < 2 ^ 32 ⌝ }
-{
-    if byte_at(case, k) == 0 {
+// The first call of s: an undo, or an edit with its kind, places and record.
+fn call(s: &[u8], room: &mut [u8], len: usize, history: &mut [u8], used: usize) -> Answer {
+    if byte_at(s, 0) == 0 {
         return undo(room, len, history, used);
     }
-    let kind = le64(case, k + 1) as usize;
-    let first = le64(case, k + 9) as usize;
-    let second = le64(case, k + 17) as usize;
-    let record = lend(case, k + 26, byte_at(case, k + 25) as usize);
+    let kind = le64(s, 1) as usize;
+    let first = le64(s, 9) as usize;
+    let second = le64(s, 17) as usize;
+    let record = lend(s, 26, byte_at(s, 25) as usize);
     edit(room, len, history, used, kind, first, second, record)
 }
 
-// The place past the call at k.
-fn past_call(case: &[u8], k: usize) -> usize
-    requires { ⌜ k < 2 ^ 32 ⌝ }
-    ensures { λ r. ⌜ k < r ⌝ }
+// How many bytes the first call of s takes.
+fn call_size(s: &[u8]) -> usize
+    ensures { λ r. ⌜ (1 ≤ r) × (r < 512) ⌝ }
 {
-    if byte_at(case, k) == 0 {
-        return k + 1;
+    if byte_at(s, 0) == 0 {
+        return 1;
     }
-    k + 26 + byte_at(case, k + 25) as usize
+    26 + byte_at(s, 25) as usize
 }
 
 // The codeplug's length after a call: as before where it was refused.
@@ -59,22 +49,23 @@ fn used_after(a: Answer, used: usize) -> usize {
 
 // Makes the calls that a list's bytes hold.
 pub(crate) fn make(
-    case: &[u8],
+    calls: &[u8],
     room: &mut [u8],
     room_length: usize,
     history: &mut [u8],
     history_length: usize,
 )
-    requires { ⌜ length (now case) < 2 ^ 32 ⌝ }
+    requires { ⌜ length (now calls) < 2 ^ 32 ⌝ }
 {
     let mut k = 0;
     let mut len = room_length;
     let mut used = history_length;
-    while k < case.len() {
-        let answer = call(case, k, room, len, history, used);
+    while k < calls.len() {
+        let s = &calls[k..];
+        let answer = call(s, room, len, history, used);
         print::line(answer, room, history);
         len = length_after(answer, len);
         used = used_after(answer, used);
-        k = past_call(case, k);
+        k += call_size(s);
     }
 }

@@ -1,45 +1,43 @@
 // Makes the lists of calls of a corpus on standard input, one line for each call, as the second program writes them (second/README.md).
 mod calls; // calls.rt: the calls of a list
-mod input; // input.rt: numbers and bytes
 mod print; // print.rt: the line of a call
 
-ghost use Prim.Native.Nat.{_<_, _≤_, _^_};
+use fields::numbers::le32;
+use fields::numbers::le64;
+use libc::STDIN_FILENO;
+ghost use Rattle.io.specs.Counts.{Counts};
 
-// a - b, or 0 where b is larger.
-fn saturating_sub(a: usize, b: usize) -> usize
-    ensures { λ r. ⌜ r ≤ a ⌝ }
+// Reads so many bytes into the start of a buffer, as many as it has at most, and answers how many.
+fn bytes(size: u32, buffer: &mut [u8]) -> usize
+    ensures { λ r. ⌜ Counts r (now (buffer .exit)) ⌝ }
 {
-    if a < b { 0 } else { a - b }
+    let n = io::count(size as isize, buffer);
+    io::read_full(STDIN_FILENO, &mut buffer[..n]);
+    n
 }
 
-// The rest of a list: the history buffer with its size and stated length, then the calls.
-fn with_room(left: usize, room: &mut [u8], len: usize, history: &mut [u8])
-    requires { ⌜ left < 2 ^ 32 ⌝ }
-{
-    let size = input::number32();
-    let used = input::number64();
-    let n = input::bytes(size, history);
-    let mut case = io::large_buffer();
-    let k = input::bytes(saturating_sub(left, 12 + size), &mut case);
-    calls::make(&case[..k], room, len, &mut history[..n], used);
-}
-
-// Whether there was a list. It starts with how many bytes it has; then the room stands, with its size and the codeplug's length.
-fn one_list(room: &mut [u8], history: &mut [u8]) -> bool {
-    let length = input::number32();
-    if length == 0 {
-        return false;
-    }
-    let size = input::number32();
-    let len = input::number64();
-    let n = input::bytes(size, room);
-    with_room(
-        saturating_sub(length, 12 + size),
+// Reads the room, the history and the calls of a list with these numbers (its length; the sizes of the three; the two lengths), makes the
+// calls, and answers whether there were any.
+fn with_numbers(numbers: &[u8], room: &mut [u8], history: &mut [u8]) -> bool {
+    let mut calls = io::large_buffer();
+    let n = bytes(le32(numbers, 4), room);
+    let m = bytes(le32(numbers, 8), history);
+    let k = bytes(le32(numbers, 12), &mut calls);
+    calls::make(
+        &calls[..k],
         &mut room[..n],
-        len,
-        history,
+        le64(numbers, 16) as usize,
+        &mut history[..m],
+        le64(numbers, 24) as usize,
     );
-    true
+    0 < k
+}
+
+// Whether there was a list. Past the end of the input every number is 0.
+fn one_list(room: &mut [u8], history: &mut [u8]) -> bool {
+    let mut numbers = [0u8; 32];
+    io::read_full(STDIN_FILENO, &mut numbers);
+    with_numbers(&numbers, room, history)
 }
 
 fn main() {

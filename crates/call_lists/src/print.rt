@@ -3,30 +3,23 @@ use fields::numbers::wide_at;
 use journal::answer::Answer;
 use libc::STDOUT_FILENO;
 
-// A number behind a space.
-fn number(n: u64) {
-    io::write_all(STDOUT_FILENO, b" ");
+// A number behind a label.
+fn number(label: &[u8], n: u64) {
+    io::write_all(STDOUT_FILENO, label);
     io::print_decimal(STDOUT_FILENO, n);
-}
-
-fn done(len: usize, used: usize, entries: usize) {
-    io::write_all(STDOUT_FILENO, b"done");
-    number(len as u64);
-    number(used as u64);
-    number(entries as u64);
-}
-
-fn refused(n: u8, place: usize) {
-    io::write_all(STDOUT_FILENO, b"refused");
-    number(n as u64);
-    io::write_all(STDOUT_FILENO, b" at");
-    number(place as u64);
 }
 
 fn words(a: Answer) {
     match a {
-        Answer::Done(len, used, entries) => done(len, used, entries),
-        Answer::Refused(n, p) => refused(n, p),
+        Answer::Done(len, used, entries) => {
+            number(b"done ", len as u64);
+            number(b" ", used as u64);
+            number(b" ", entries as u64);
+        }
+        Answer::Refused(n, place) => {
+            number(b"refused ", n as u64);
+            number(b" at ", place as u64);
+        }
     }
 }
 
@@ -44,9 +37,7 @@ fn checksum(s: &[u8]) -> u64 {
 // A call's answer, and both whole buffers after it.
 pub(crate) fn line(a: Answer, room: &[u8], history: &[u8]) {
     words(a);
-    io::write_all(STDOUT_FILENO, b" room");
-    number(checksum(room));
-    io::write_all(STDOUT_FILENO, b" history");
-    number(checksum(history));
+    number(b" room ", checksum(room));
+    number(b" history ", checksum(history));
     io::write_all(STDOUT_FILENO, b"\n");
 }

@@ -1,3 +1,2 @@
--- What the writers and the two calls of the C interface answer.
-pub mod Write
+-- What the two calls of the C interface answer.
 pub mod Calls

@@ -1,28 +1,24 @@
--- A channel as numbers, and back.
+-- A channel as numbers.
 use Prim.Native.Nat.{ℕ}
-use mathlib.Core.Bool.{Bool, true, false, cond}
+use mathlib.Core.Bool.{Bool, true, false}
 use mathlib.Core.List.{List, [], _++_}
-use lib.Dec.{eqb}
 use Rattle.fields.specs.declared.rule.Verdict.the-variants.{Refused}
 use Rattle.tones.specs.Tone.{toneIndex}
 use Rattle.tones.specs.declared.Tone.{Tone}
 use Rattle.tones.specs.declared.Tone.the-variants.{Enabled, Disabled}
-use Rattle.channel.specs.Values.{contactIndexOf, contactIndexNumber}
+use Rattle.channel.specs.Values.{contactIndexNumber}
 use Rattle.channel_reader.specs.Reading.{channelAnswer}
 use Rattle.channel.specs.declared.Info.{Info}
 use Rattle.channel.specs.declared.Info.the-variants.{Fm, Dmr, M17}
 use Rattle.channel_reader.specs.declared.ChannelRead.{ChannelRead}
 use Rattle.capi_numbers.specs.Numbers.{refusalOf}
 use Rattle.capi_convert.specs.Texts.{TextsOut}
-use Rattle.capi_convert.specs.declared.channels.InfoFields.{InfoFields}
+use Rattle.capi_numbers.specs.declared.InfoFields.{InfoFields}
 use Rattle.capi_convert.specs.declared.channels.ChannelAnswer.{ChannelAnswer}
 
 abbrev pub toneOn : Tone → Bool
 toneOn (Enabled i) = true
 toneOn (Disabled i) = false
-
-abbrev pub toneFrom : ℕ → Bool → Tone
-toneFrom i on = cond on (Enabled i) (Disabled i)
 
 -- the other modes' numbers are 0, and the contact 65,535, which is nobody
 unfoldable pub infoFields : Info → InfoFields
@@ -79,27 +75,3 @@ channelTaken r = record { refusal = refusalOf (r .verdict); common = r .channel 
 
 abbrev pub ChannelOut : ChannelRead → List ℕ → ChannelAnswer → List ℕ → Type 0
 ChannelOut = TextsOut (λ r. r .verdict) (λ r. r .channel .name ++ r .channel .description) channelTaken 64 (channelAnswer (Refused 25 0) [])
-
--- ---- writing
-
--- what the numbers mean, the other modes' unread; only of use where the mode is good
-unfoldable pub infoFrom : InfoFields → Info
-infoFrom v =
-    cond (eqb (v .mode) 0)
-    (Fm (record {
-      receive = toneFrom (v .«receive_tone») (v .«receive_tone_on»);
-      transmit = toneFrom (v .«transmit_tone») (v .«transmit_tone_on»);
-    }))
-    (cond (eqb (v .mode) 1)
-    (Dmr (record {
-      colours = v .colours;
-      slot = v .slot;
-      contact = contactIndexOf (v .contact);
-    }))
-    (M17 (record {
-      access = v .access;
-      operation = v .operation;
-      encryption = v .encryption;
-      position = v .position;
-      contact = contactIndexOf (v .contact);
-    })))

@@ -1,8 +1,7 @@
--- A contact as numbers, and back.
+-- A contact as numbers.
 use Prim.Native.Nat.{ℕ}
-use mathlib.Core.Bool.{Bool, true, false, cond}
+use mathlib.Core.Bool.{Bool, true, false}
 use mathlib.Core.List.{List, []}
-use lib.Dec.{eqb}
 use Rattle.fields.specs.declared.rule.Verdict.the-variants.{Refused}
 use Rattle.m17.specs.Address.{addressNumber}
 use Rattle.m17.specs.declared.Address.{Address}
@@ -13,7 +12,7 @@ use Rattle.contact.specs.declared.ContactInfo.the-variants.{M17, Dmr}
 use Rattle.contact.specs.declared.ContactRead.{ContactRead}
 use Rattle.capi_numbers.specs.Numbers.{refusalOf}
 use Rattle.capi_convert.specs.Texts.{TextsOut}
-use Rattle.capi_convert.specs.declared.contacts.ContactFields.{ContactFields}
+use Rattle.capi_numbers.specs.declared.ContactFields.{ContactFields}
 use Rattle.capi_convert.specs.declared.contacts.ContactAnswer.{ContactAnswer}
 
 abbrev pub isBroadcast : Address → Bool
@@ -34,12 +33,3 @@ contactTaken r = record { refusal = refusalOf (r .verdict); values = contactFiel
 
 abbrev pub ContactOut : ContactRead → List ℕ → ContactAnswer → List ℕ → Type 0
 ContactOut = TextsOut (λ r. r .verdict) (λ r. r .contact .name) contactTaken 32 (contactAnswer (Refused 25 0) [])
-
--- ---- writing
-
--- what the numbers mean, the other mode's unread, and the address too where `broadcast` is set; only of use where the mode is good
-abbrev pub infoFrom : ContactFields → ContactInfo
-infoFrom v =
-    cond (eqb (v .mode) 1)
-    (Dmr (record { id = v .id; settings = record { kind = v .kind; «rx_tone» = v .«rx_tone» } }))
-    (M17 (cond (v .broadcast) Broadcast (Callsign (v .address))))

@@ -1,4 +1,4 @@
--- The library's answers as structures of C, and back.
+-- The library's answers as structures of C.
 pub mod Texts
 pub mod Files
 pub mod Contacts

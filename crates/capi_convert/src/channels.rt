@@ -1,6 +1,7 @@
-// A channel as numbers, and back.
+// A channel as numbers.
 use bits::Halves;
 use capi_numbers::GOOD;
+use capi_numbers::InfoFields;
 use capi_numbers::Refusal;
 use channel::Common;
 use channel::DmrInfo;
@@ -9,30 +10,13 @@ use channel::Info;
 use channel::M17Info;
 use channel::values::contact_index_number;
 use fields::rule::Verdict;
+use format::sizes::CHANNEL_SIZE;
 use tones::Tone;
 use tones::index_in;
 ghost use mathlib.Core.Path.{_≡_};
 ghost use lib.ListN.{length};
 ghost use Rattle.channel_reader.specs.Reading.{infoOf, channelAnswer};
-ghost use Rattle.capi_convert.specs.Channels.{toneOn, toneFrom, infoFields, ChannelOut, infoFrom};
-
-// Mode 0 is FM (the tones), 1 DMR (colours, slot, contact), 2 M17 (access, operation, encryption, position, contact). Of colours and
-// access the high half is for receive, the low for transmit.
-#[repr(C)]
-pub struct InfoFields {
-    pub contact: u16,
-    pub mode: u8,
-    pub receive_tone: u8,
-    pub receive_tone_on: bool,
-    pub transmit_tone: u8,
-    pub transmit_tone_on: bool,
-    pub colours: Halves,
-    pub slot: u8,
-    pub access: Halves,
-    pub operation: u8,
-    pub encryption: u8,
-    pub position: bool,
-}
+ghost use Rattle.capi_convert.specs.Channels.{toneOn, infoFields, ChannelOut};
 
 #[repr(C)]
 pub struct ChannelAnswer {
@@ -133,49 +117,10 @@ pub fn channel_out(texts: &mut [u8], v: Verdict, s: &[u8]) -> ChannelAnswer
             info: NO_INFO,
         };
     }
-    let whole = &s[0..90];
+    let whole = &s[0..CHANNEL_SIZE];
     ChannelAnswer {
         refusal: GOOD,
         common: channel_reader::common_of(whole),
         info: fields_of(whole),
     }
-}
-
-fn tone_from(index: u8, on: bool) -> Tone
-    ensures { λ r. ⌜ r ≡ toneFrom index on ⌝ }
-{
-    if on {
-        Tone::Enabled(index)
-    } else {
-        Tone::Disabled(index)
-    }
-}
-
-// The info that the numbers mean; any mode but 0 and 1 is taken for M17.
-pub fn info_from(v: InfoFields) -> Info
-    ensures { λ r. ⌜ r ≡ infoFrom v ⌝ }
-{
-    let contact = channel::values::contact_index_of(v.contact);
-    if v.mode == channel::FM {
-        return Info::Fm(FmInfo {
-            receive: tone_from(v.receive_tone, v.receive_tone_on),
-            transmit: tone_from(v.transmit_tone, v.transmit_tone_on),
-        });
-    }
-    if v.mode == channel::DMR {
-        let colours = v.colours;
-        return Info::Dmr(DmrInfo {
-            colours,
-            slot: v.slot,
-            contact,
-        });
-    }
-    let access = v.access;
-    Info::M17(M17Info {
-        access,
-        operation: v.operation,
-        encryption: v.encryption,
-        position: v.position,
-        contact,
-    })
 }

@@ -1,26 +1,14 @@
-// A contact as numbers, and back.
+// A contact as numbers.
+use capi_numbers::ContactFields;
 use capi_numbers::Refusal;
 use contact::ContactInfo;
-use contact::DmrContact;
-use contact::Settings;
 use fields::rule::Verdict;
 use m17::Address;
 ghost use mathlib.Core.Path.{_≡_};
 ghost use Prim.Native.Nat.{_≤_};
 ghost use lib.ListN.{length};
 ghost use Rattle.contact.specs.Contact.{contactAnswer};
-ghost use Rattle.capi_convert.specs.Contacts.{isBroadcast, contactFields, ContactOut, infoFrom};
-
-// A contact but for its name. Mode 1 is DMR (id, kind, rx tone), mode 2 is M17 (address, broadcast); the other mode's numbers are 0.
-#[repr(C)]
-pub struct ContactFields {
-    pub address: u64,
-    pub id: u32,
-    pub mode: u8,
-    pub kind: u8,
-    pub rx_tone: bool,
-    pub broadcast: bool,
-}
+ghost use Rattle.capi_convert.specs.Contacts.{isBroadcast, contactFields, ContactOut};
 
 #[repr(C)]
 pub struct ContactAnswer {
@@ -76,21 +64,4 @@ pub fn contact_out(name: &mut [u8], v: Verdict, s: &[u8]) -> ContactAnswer
         refusal: capi_numbers::refusal_of(told),
         values: contact_fields(info),
     }
-}
-
-// The info that the numbers mean; any mode but 1 is taken for M17.
-pub fn info_from(v: ContactFields) -> ContactInfo
-    ensures { λ r. ⌜ r ≡ infoFrom v ⌝ }
-{
-    if v.mode == contact::DMR {
-        let settings = Settings {
-            kind: v.kind,
-            rx_tone: v.rx_tone,
-        };
-        return ContactInfo::Dmr(DmrContact { id: v.id, settings });
-    }
-    if v.broadcast {
-        return ContactInfo::M17(Address::Broadcast);
-    }
-    ContactInfo::M17(Address::Callsign(v.address))
 }

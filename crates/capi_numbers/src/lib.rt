@@ -1,4 +1,6 @@
-// A refusal, and the answers of the C interface that are numbers alone: of the two calls, addresses and tones.
+// The structures of the C interface that are numbers alone: a refusal, the answers of the two calls, of addresses and of tones, and a record's
+// values.
+use bits::Halves;
 use fields::rule::Verdict;
 use journal::answer::Answer;
 use m17::Decoded;
@@ -125,4 +127,34 @@ pub fn index_number(i: ToneIndex) -> u8
         ToneIndex::Index(i) => i,
         ToneIndex::NoIndex => 255,
     }
+}
+
+// A contact but for its name. Mode 1 is DMR (id, kind, rx tone), mode 2 is M17 (address, broadcast); the other mode's numbers are 0 in what is
+// read, and unread in what is written.
+#[repr(C)]
+pub struct ContactFields {
+    pub address: u64,
+    pub id: u32,
+    pub mode: u8,
+    pub kind: u8,
+    pub rx_tone: bool,
+    pub broadcast: bool,
+}
+
+// A channel's info. Mode 0 is FM (the tones), 1 DMR (colours, slot, contact), 2 M17 (access, operation, encryption, position, contact). Of
+// colours and access the high half is for receive, the low for transmit.
+#[repr(C)]
+pub struct InfoFields {
+    pub contact: u16,
+    pub mode: u8,
+    pub receive_tone: u8,
+    pub receive_tone_on: bool,
+    pub transmit_tone: u8,
+    pub transmit_tone_on: bool,
+    pub colours: Halves,
+    pub slot: u8,
+    pub access: Halves,
+    pub operation: u8,
+    pub encryption: u8,
+    pub position: bool,
 }

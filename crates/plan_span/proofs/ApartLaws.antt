@@ -24,7 +24,8 @@ use Rattle.renumber.specs.declared.shift.Shift.the-variants.{Raise, Lower}
 use Rattle.plan.specs.declared.Counted.{Counted}
 use Rattle.plan.specs.Plan.{counted}
 use Rattle.plan.specs.Fits.{CountedFits}
-use Rattle.plan_span.specs.Tail.{between, countedPieces, apartTail, apartSpan}
+use Rattle.plan_suffix.specs.Suffix.{between, countedPieces}
+use Rattle.plan_span.specs.Measure.{apartTail, apartSpan}
 use Rattle.plan_span.proofs.MeasureLaws.{Measured, counted-measured, cut-part}
 
 -- ---- an index moves by one, so that its low byte changes

@@ -29,7 +29,7 @@ use Rattle.plan.specs.declared.Counted.{Counted}
 use Rattle.plan.specs.declared.Plan.the-variants.{Contacts, Channels}
 use Rattle.plan.specs.Plan.{counted, planned}
 use Rattle.plan.specs.Fits.{CountedFits, Fits}
-use Rattle.plan_span.specs.Tail.{apartSpan}
+use Rattle.plan_span.specs.Measure.{apartSpan}
 use Rattle.plan_span.proofs.ApartLaws.{apart-change}
 
 -- ---- bytes

@@ -1,5 +1,4 @@
 -- Laws on a change's place and lengths.
-pub mod TailLaws
 pub mod MeasureLaws
 pub mod ApartLaws
 pub mod TableLaws

@@ -17,7 +17,8 @@ use Rattle.journal.specs.declared.recording.Span.{Span}
 use Rattle.plan.specs.declared.Counted.{Counted}
 use Rattle.plan.specs.Plan.{counted}
 use Rattle.plan.specs.Fits.{CountedFits}
-use Rattle.plan_span.specs.Tail.{between, countedPieces, spanFrom}
+use Rattle.plan_suffix.specs.Suffix.{between, countedPieces}
+use Rattle.plan_span.specs.Measure.{spanFrom}
 use Rattle.plan.proofs.Laws.{length-counted}
 
 -- from f to new: the change starts at p, `tail` bytes agree behind it, and new has n bytes

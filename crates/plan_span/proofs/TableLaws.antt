@@ -18,7 +18,7 @@ use Rattle.plan.specs.declared.Block.{Block}
 use Rattle.plan.specs.declared.Plan.the-variants.{Entries, AddBank, DropBank}
 use Rattle.plan.specs.Plan.{counted, tableMoved, planned}
 use Rattle.plan.specs.Fits.{CountedFits, TableFits, FirstChanges, Fits}
-use Rattle.plan_span.specs.Tail.{between, tableEnd, newOffsets, entriesBehind, entriesPieces, entriesTail, bankPieces, bankTail}
+use Rattle.plan_suffix.specs.Suffix.{between, tableEnd, newOffsets, entriesBehind, entriesPieces, entriesSuffix, bankPieces, bankSuffix}
 use Rattle.plan.proofs.Laws.{length-cut, length-counted, length-tableMoved}
 use Rattle.plan_span.proofs.MeasureLaws.{Measured, measured, measured-as, counted-measured, cut-part, count-behind}
 
@@ -60,7 +60,7 @@ abbrev pub EntriesMeasured : Table → Counted → List ℕ → List ℕ → ℕ
 EntriesMeasured t c r f e =
     Measured f (planned (Entries t c) r f) (t .start) (length f - (c .at + c .gone) + e) (length f - c .gone + length r)
 
-pub entries-measured : (t : Table) (c : Counted) (r f : List ℕ) (e : ℕ) → Fits (Entries t c) r f → (t .many ≡ 0 → ⊥) → e ≡ entriesTail t c r f
+pub entries-measured : (t : Table) (c : Counted) (r f : List ℕ) (e : ℕ) → Fits (Entries t c) r f → (t .many ≡ 0 → ⊥) → e ≡ entriesSuffix t c r f
     → EntriesMeasured t c r f e
 unfolding Fits planned counted FirstChanges
 entries-measured t c r f e h some ee =
@@ -96,7 +96,7 @@ entries-measured t c r f e h some ee =
 -- ---- a bank comes or goes, and its offset in the table
 
 bank-measured : (t : Table) (k : Block) (c : Counted) (s a b f : List ℕ) (e : ℕ) → CountedFits c f (t .start) → TableFits t f (k .at)
-    → k .at + k .size ≤ length f → c .at + c .gone ≡ t .start → e ≡ bankTail t k c a b s f
+    → k .at + k .size ≤ length f → c .at + c .gone ≡ t .start → e ≡ bankSuffix t k c a b s f
     → Measured f (counted c s (cut (tableMoved t f) (k .at) (k .size) (a ++ b))) (c .counter) (length f - (k .at + k .size) + e)
     (length f - k .size + (length a + length b) - c .gone + length s)
 bank-measured t k c s a b f e h v i j ee =
@@ -125,7 +125,7 @@ AddMeasured t at offset c r f e =
     Measured f (planned (AddBank t at offset c) r f) (c .counter) (length f - at + e) (length f + length r + 6)
 
 pub add-measured : (t : Table) (at offset : ℕ) (c : Counted) (r f n : List ℕ) (e : ℕ) → Fits (AddBank t at offset c) r f
-    → n ≡ littleBytes 4 offset → e ≡ bankTail t (record { at = at; size = 0 }) c r (0 ∷ 0 ∷ []) n f → AddMeasured t at offset c r f e
+    → n ≡ littleBytes 4 offset → e ≡ bankSuffix t (record { at = at; size = 0 }) c r (0 ∷ 0 ∷ []) n f → AddMeasured t at offset c r f e
 unfolding Fits planned zeros
 add-measured t at offset c r f n e h en ee =
     let l = length-littleBytes 4 offset in
@@ -139,7 +139,7 @@ abbrev pub DropMeasured : Table → Block → Counted → List ℕ → List ℕ 
 DropMeasured t b c r f e =
     Measured f (planned (DropBank t b c) r f) (c .counter) (length f - (b .at + b .size) + e) (length f - b .size - c .gone)
 
-pub drop-measured : (t : Table) (b : Block) (c : Counted) (r f : List ℕ) (e : ℕ) → Fits (DropBank t b c) r f → e ≡ bankTail t b c [] [] [] f
+pub drop-measured : (t : Table) (b : Block) (c : Counted) (r f : List ℕ) (e : ℕ) → Fits (DropBank t b c) r f → e ≡ bankSuffix t b c [] [] [] f
     → DropMeasured t b c r f e
 unfolding Fits planned
 drop-measured t b c r f e h ee =

@@ -1,2 +1,2 @@
 -- How the code tells a change's place and lengths.
-pub mod Tail
+pub mod Measure

@@ -1,8 +1,4 @@
 // A change's place and lengths (document 01, "The history"), told before anything is written.
-mod tails; // tails.rt: how much agrees behind a change of offsets
-
-use crate::tails::bank_tail;
-use crate::tails::entries_tail;
 use affixes::common_end;
 use affixes::common_start;
 use affixes::pieces::common_end3;
@@ -18,6 +14,8 @@ use plan::Plan;
 use plan::Table;
 use plan::numbers::bytes16;
 use plan::numbers::bytes32;
+use plan_suffix::bank_suffix;
+use plan_suffix::entries_suffix;
 use renumber::shift::Shift;
 use renumber::shift::shifted;
 use renumber_last::Last;
@@ -32,7 +30,7 @@ ghost use Rattle.journal.specs.Span.{spanOf};
 ghost use Rattle.plan.specs.Plan.{counted, planned};
 ghost use Rattle.plan.specs.declared.Plan.the-variants as plan;
 ghost use Rattle.plan.specs.Fits.{CountedFits, Fits};
-ghost use Rattle.plan_span.specs.Tail.{spanFrom, apartSpan};
+ghost use Rattle.plan_span.specs.Measure.{spanFrom, apartSpan};
 
 // A change from p on, with so many bytes that agree behind it in files of these lengths.
 fn span_from(p: usize, tail: usize, old: usize, new: usize) -> Span
@@ -121,7 +119,7 @@ fn entries_span(f: &[u8], t: Table, c: Counted, r: &[u8]) -> Span
     }
     let end = c.at + c.gone;
     let new = f.len() - c.gone + r.len();
-    let tail = entries_tail(f, t, c, r);
+    let tail = entries_suffix(f, t, c, r);
     span_from(t.start, f.len() - end + tail, f.len(), new)
 }
 
@@ -131,7 +129,7 @@ fn add_bank_span(f: &[u8], t: Table, at: usize, offset: u32, c: Counted, r: &[u8
 {
     let zeros = [0u8; 2];
     let bytes = bytes32(offset);
-    let tail = bank_tail(f, t, Block { at, size: 0 }, r, &zeros, c, &bytes);
+    let tail = bank_suffix(f, t, Block { at, size: 0 }, r, &zeros, c, &bytes);
     span_from(
         c.counter,
         f.len() - at + tail,
@@ -147,7 +145,7 @@ fn drop_bank_span(f: &[u8], t: Table, b: Block, c: Counted, r: &[u8]) -> Span
     let end = b.at + b.size;
     let new = f.len() - b.size - c.gone;
     let none = &r[..0];
-    let tail = bank_tail(f, t, b, none, none, c, none);
+    let tail = bank_suffix(f, t, b, none, none, c, none);
     span_from(c.counter, f.len() - end + tail, f.len(), new)
 }
 

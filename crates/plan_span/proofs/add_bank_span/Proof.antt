@@ -5,19 +5,19 @@ use Rattle.plan_span.proofs.TableLaws.{AddMeasured, add-measured}
 use Rattle.plan_span.proofs.add_bank_span.Statement.{statement}
 use Rattle.plan_span.proofs.add_bank_span.Tie as tie
 
-bank-tail-requires : tie.Need-bank-tail-requires
+bank-suffix-requires : tie.Need-bank-suffix-requires
 unfolding Fits
-bank-tail-requires c κs =
+bank-suffix-requires c κs =
     let h = c .before .before .before .before .before .pre in
     (h .1 .0 .before, (h .1 .0 .few, (h .0 .before, (omega arith, omega arith))))
 
-measured : (c : tie.After-bank-tail)
+measured : (c : tie.After-bank-suffix)
     → (let e = c .before .before .before .before .before .before .args in
-    AddMeasured (e .t) (e .at) (e .offset) (e .c) (e .r .now) (e .f .now) (c .bank-tail .result))
+    AddMeasured (e .t) (e .at) (e .offset) (e .c) (e .r .now) (e .f .now) (c .bank-suffix .result))
 measured c =
     let s = c .before .before .before .before .before .before in
     add-measured (s .args .t) (s .args .at) (s .args .offset) (s .args .c) (s .args .r .now) (s .args .f .now) _ _ (s .pre)
-    (c .before .before .before .bytes32 .ensures) (c .bank-tail .ensures)
+    (c .before .before .before .bytes32 .ensures) (c .bank-suffix .ensures)
 
 pub add-bank-span-spec : {M : Type 1} → statement M
 unfolding Fits
@@ -27,7 +27,7 @@ add-bank-span-spec =
     (λ c. omega arith)
     (λ c. omega arith)
     (λ c. omega arith)
-    bank-tail-requires
+    bank-suffix-requires
     (λ c. omega arith)
     (λ c. omega (arith, measured c .old-fits))
     (λ c. omega arith)

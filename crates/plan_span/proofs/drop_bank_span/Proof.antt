@@ -5,18 +5,18 @@ use Rattle.plan_span.proofs.TableLaws.{DropMeasured, drop-measured}
 use Rattle.plan_span.proofs.drop_bank_span.Statement.{statement}
 use Rattle.plan_span.proofs.drop_bank_span.Tie as tie
 
-bank-tail-requires : tie.Need-bank-tail-requires
+bank-suffix-requires : tie.Need-bank-suffix-requires
 unfolding Fits
-bank-tail-requires c κs =
+bank-suffix-requires c κs =
     let h = c .before .before .before .before .before .before .pre in
     (h .1 .0 .before, (h .1 .0 .few, (h .0 .before, (omega arith, h .1 .1 .0))))
 
-measured : (c : tie.After-bank-tail)
+measured : (c : tie.After-bank-suffix)
     → (let e = c .before .before .before .before .before .before .before .args in
-    DropMeasured (e .t) (e .b) (e .c) (e .r .now) (e .f .now) (c .bank-tail .result))
+    DropMeasured (e .t) (e .b) (e .c) (e .r .now) (e .f .now) (c .bank-suffix .result))
 measured c =
     let s = c .before .before .before .before .before .before .before in
-    drop-measured (s .args .t) (s .args .b) (s .args .c) (s .args .r .now) (s .args .f .now) _ (s .pre) (c .bank-tail .ensures)
+    drop-measured (s .args .t) (s .args .b) (s .args .c) (s .args .r .now) (s .args .f .now) _ (s .pre) (c .bank-suffix .ensures)
 
 pub drop-bank-span-spec : {M : Type 1} → statement M
 unfolding Fits
@@ -27,7 +27,7 @@ drop-bank-span-spec =
     (λ c. omega arith)
     (λ c. omega arith)
     (λ c. omega arith)
-    bank-tail-requires
+    bank-suffix-requires
     (λ c. omega arith)
     (λ c. omega (arith, measured c .old-fits))
     (λ c κs. (measured c .old-fits, measured c .new-fits))

@@ -12,19 +12,19 @@ returns c =
     let e = c .before .before .before .before .before .args in
     rw (table-none (e .t) (e .f .now) (c .before .if1 .taken)) (c .counted-span .ensures)
 
-entries-tail-requires : tie.Need-entries-tail-requires
+entries-suffix-requires : tie.Need-entries-suffix-requires
 unfolding Fits
-entries-tail-requires c κs =
+entries-suffix-requires c κs =
     let h = c .before .before .before .before .before .before .pre in
     (h .1 .0 .before, (h .0 .before, (h .0 .inside, h .1 .0 .few)))
 
-measured : (c : tie.After-entries-tail)
+measured : (c : tie.After-entries-suffix)
     → (let e = c .before .before .before .before .before .before .before .args in
-    EntriesMeasured (e .t) (e .c) (e .r .now) (e .f .now) (c .entries-tail .result))
+    EntriesMeasured (e .t) (e .c) (e .r .now) (e .f .now) (c .entries-suffix .result))
 measured c =
     let s = c .before .before .before .before .before .before .before in
     entries-measured (s .args .t) (s .args .c) (s .args .r .now) (s .args .f .now) _ (s .pre) (c .before .before .before .if1 .left)
-    (c .entries-tail .ensures)
+    (c .entries-suffix .ensures)
 
 pub entries-span-spec : {M : Type 1} → statement M
 unfolding Fits
@@ -36,7 +36,7 @@ entries-span-spec =
     (λ c. omega arith)
     (λ c. omega arith)
     (λ c. omega arith)
-    entries-tail-requires
+    entries-suffix-requires
     (λ c. omega arith)
     (λ c. omega (arith, measured c .old-fits))
     (λ c κs. (measured c .old-fits, measured c .new-fits))

@@ -3,7 +3,7 @@ use native.Mathlib.Omega.{arith}
 use Prim.Native.Nat.{_+_, _-_}
 use lib.ListN.{length}
 use Rattle.fields.specs.Bytes.{over}
-use Rattle.plan_span.specs.Tail.{between}
+use Rattle.plan_suffix.specs.Suffix.{between}
 use Rattle.plan_span.proofs.MeasureLaws.{Measured, Replaced, replaced}
 use Rattle.plan_span.proofs.replace_span.Statement.{statement}
 use Rattle.plan_span.proofs.replace_span.Tie as tie

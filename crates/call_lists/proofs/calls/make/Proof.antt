@@ -1,4 +1,4 @@
--- `call_lists::calls::make` is safe and ends: the buffers keep their lengths, and each call takes at least a byte of the case.
+-- `call_lists::calls::make` is safe and ends: the buffers keep their lengths, and each call takes at least a byte of the list.
 use Prim.Native.Nat.{_-_}
 use mathlib.Core.Path.{_≡_, refl}
 use lib.ListN.{length}
@@ -8,10 +8,11 @@ use Rattle.call_lists.proofs.calls.make.Statement.{statement}
 use Rattle.call_lists.proofs.calls.make.Tie as tie
 
 abbrev Inv-loop : tie.InvT-loop
-Inv-loop case room₀ room-length history₀ history-length k₀ len₀ used₀ room history k len used = (length room ≡ length room₀) × (length history ≡ length history₀)
+Inv-loop calls room₀ room-length history₀ history-length k₀ len₀ used₀ room history k len used =
+    (length room ≡ length room₀) × (length history ≡ length history₀)
 
 abbrev μ-loop : tie.MeasureT-loop
-μ-loop case room₀ room-length history₀ history-length k₀ len₀ used₀ room history k len used = length case - k
+μ-loop calls room₀ room-length history₀ history-length k₀ len₀ used₀ room history k len used = length calls - k
 
 pub make-spec : {M : Type 1} → statement M
 make-spec =
@@ -20,11 +21,15 @@ make-spec =
     Inv-loop
     μ-loop
     (λ c. (refl, refl))
-    (λ c κs. omega arith)
+    (λ c. omega arith)
+    (λ c. omega arith)
+    (λ c. omega arith)
     (search needs)
     (search needs)
     (search needs)
-    (λ c κs. omega arith)
+    (search needs)
+    (search needs)
+    (λ c. omega arith)
     (λ c. omega arith)
     (search needs)
     (search needs)

@@ -1,0 +1,12 @@
+-- By the flag.
+use Rattle.capi_write.proofs.channels.tone_from.Statement.{statement}
+use Rattle.capi_write.proofs.channels.tone_from.Tie as tie
+
+returns : tie.Need-returns
+returns c = rw (c .if1 .taken)
+
+returns-2 : tie.Need-returns-2
+returns-2 c = rw (c .if1 .left)
+
+pub tone-from-spec : {M : Type 1} → statement M
+tone-from-spec = tie.close (tie.spec returns returns-2)

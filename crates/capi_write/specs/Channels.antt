@@ -1,0 +1,63 @@
+-- A channel written from its numbers.
+use mathlib.Core.Path.{_≡_}
+use Prim.Native.Nat.{ℕ}
+use mathlib.Core.Bool.{Bool, cond}
+use mathlib.Core.List.{List}
+use lib.ListN.{length}
+use lib.Dec.{eqb, leb}
+use Rattle.fields.specs.Rule.{_then_, unless, written}
+use Rattle.fields.specs.declared.rule.Verdict.{Verdict}
+use Rattle.tones.specs.declared.Tone.{Tone}
+use Rattle.tones.specs.declared.Tone.the-variants.{Enabled, Disabled}
+use Rattle.channel.specs.Values.{modeOk, contactIndexOf}
+use Rattle.channel.specs.declared.Common.{Common}
+use Rattle.channel.specs.declared.Info.{Info}
+use Rattle.channel.specs.declared.Info.the-variants.{Fm, Dmr, M17}
+use Rattle.channel_writer.specs.Writing.{channelGiven, channelBytes}
+use Rattle.capi_numbers.specs.Numbers.{refusalOf}
+use Rattle.capi_numbers.specs.declared.Refusal.{Refusal}
+use Rattle.capi_numbers.specs.declared.InfoFields.{InfoFields}
+
+abbrev pub toneFrom : ℕ → Bool → Tone
+toneFrom i on = cond on (Enabled i) (Disabled i)
+
+-- what the numbers mean, the other modes' unread; only of use where the mode is good
+unfoldable pub infoFrom : InfoFields → Info
+infoFrom v =
+    cond (eqb (v .mode) 0)
+    (Fm (record {
+      receive = toneFrom (v .«receive_tone») (v .«receive_tone_on»);
+      transmit = toneFrom (v .«transmit_tone») (v .«transmit_tone_on»);
+    }))
+    (cond (eqb (v .mode) 1)
+    (Dmr (record {
+      colours = v .colours;
+      slot = v .slot;
+      contact = contactIndexOf (v .contact);
+    }))
+    (M17 (record {
+      access = v .access;
+      operation = v .operation;
+      encryption = v .encryption;
+      position = v .position;
+      contact = contactIndexOf (v .contact);
+    })))
+
+-- ---- a channel: the mode is judged at 0, after 25
+
+unfoldable pub channelAsked : ℕ → List ℕ → List ℕ → Common → InfoFields → Verdict
+channelAsked size name description common info =
+    unless (leb 90 size) 25 0
+    then unless (modeOk (info .mode)) 6 0
+    then channelGiven size name description common (infoFrom info)
+
+unfoldable pub channelLeft : List ℕ → List ℕ → List ℕ → Common → InfoFields → List ℕ
+channelLeft out name description common info =
+    written
+    (channelAsked (length out) name description common info)
+    out
+    (channelBytes name description common (infoFrom info))
+
+abbrev pub ChannelAnswered : List ℕ → List ℕ → List ℕ → Common → InfoFields → Refusal → List ℕ → Type 0
+ChannelAnswered out name description common info r left =
+    (r ≡ refusalOf (channelAsked (length out) name description common info)) × (left ≡ channelLeft out name description common info)

@@ -1,0 +1,3 @@
+-- What the writers of the C interface answer.
+pub mod Contacts
+pub mod Channels

@@ -1,0 +1,74 @@
+// A channel written from its numbers.
+use capi_numbers::InfoFields;
+use capi_numbers::Refusal;
+use capi_numbers::refusal_of;
+use channel::Common;
+use channel::DmrInfo;
+use channel::FmInfo;
+use channel::Info;
+use channel::M17Info;
+use fields::rule::Verdict;
+use fields::rule::first;
+use fields::rule::unless;
+use format::refusals::MODE;
+use format::refusals::SHORT_BUFFER;
+use tones::Tone;
+ghost use mathlib.Core.Path.{_≡_};
+ghost use Rattle.capi_write.specs.Channels.{toneFrom, infoFrom, ChannelAnswered};
+
+fn tone_from(index: u8, on: bool) -> Tone
+    ensures { λ r. ⌜ r ≡ toneFrom index on ⌝ }
+{
+    if on {
+        Tone::Enabled(index)
+    } else {
+        Tone::Disabled(index)
+    }
+}
+
+// The info that the numbers mean; any mode but 0 and 1 is taken for M17.
+fn info_from(v: InfoFields) -> Info
+    ensures { λ r. ⌜ r ≡ infoFrom v ⌝ }
+{
+    let contact = channel::values::contact_index_of(v.contact);
+    if v.mode == channel::FM {
+        return Info::Fm(FmInfo {
+            receive: tone_from(v.receive_tone, v.receive_tone_on),
+            transmit: tone_from(v.transmit_tone, v.transmit_tone_on),
+        });
+    }
+    if v.mode == channel::DMR {
+        let colours = v.colours;
+        return Info::Dmr(DmrInfo {
+            colours,
+            slot: v.slot,
+            contact,
+        });
+    }
+    let access = v.access;
+    Info::M17(M17Info {
+        access,
+        operation: v.operation,
+        encryption: v.encryption,
+        position: v.position,
+        contact,
+    })
+}
+
+// Writes a channel's 90 bytes.
+pub fn write(
+    out: &mut [u8],
+    name: &[u8],
+    description: &[u8],
+    common: Common,
+    info: InfoFields,
+) -> Refusal
+    ensures { λ r. ⌜ ChannelAnswered (now (out .entry)) (now (name .entry)) (now (description .entry)) common info r (now (out .exit)) ⌝ }
+{
+    if 2 < info.mode {
+        let short = unless(format::sizes::CHANNEL_SIZE <= out.len(), SHORT_BUFFER, 0);
+        return refusal_of(first(short, Verdict::Refused(MODE, 0)));
+    }
+    let info = info_from(info);
+    refusal_of(channel_writer::write(out, name, description, common, info))
+}

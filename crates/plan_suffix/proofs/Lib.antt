@@ -1,0 +1,2 @@
+-- Laws on what agrees behind a change of offsets.
+pub mod SuffixLaws
