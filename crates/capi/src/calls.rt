@@ -1,6 +1,4 @@
 // The calls on two lent buffers, a codeplug's and its history's.
-use capi_numbers::CallAnswer;
-use capi_numbers::call_answer;
 ghost use Rattle.journal.specs.Machine.{undoStep};
 ghost use Rattle.edits.specs.Setting.{editing};
 ghost use Rattle.preconditions.specs.Calls.{lent};
@@ -13,10 +11,10 @@ pub extern "C" fn codeplug_undo(
     len: usize,
     history: &mut [u8],
     used: usize,
-) -> CallAnswer
+) -> capi_numbers::CallAnswer
     ensures { λ r. ⌜ Called (undoStep editing (lent (now (room .entry)) len (now (history .entry)) used)) r (now (room .exit)) (now (history .exit)) ⌝ }
 {
-    call_answer(undo::undo(room, len, history, used))
+    capi_numbers::call_answer(undo::undo(room, len, history, used))
 }
 
 // Makes an edit in both buffers, or refuses it and leaves them as lent.
@@ -30,9 +28,9 @@ pub extern "C" fn codeplug_edit(
     first: usize,
     second: usize,
     bytes: &[u8],
-) -> CallAnswer
+) -> capi_numbers::CallAnswer
     ensures { λ r. ⌜ Edited kind first second (now (bytes .entry)) (lent (now (room .entry)) len (now (history .entry)) used)
         r (now (room .exit)) (now (history .exit)) ⌝ }
 {
-    call_answer(editor::edit(room, len, history, used, kind, first, second, bytes))
+    capi_numbers::call_answer(editor::edit(room, len, history, used, kind, first, second, bytes))
 }

@@ -1,10 +1,4 @@
 // Addresses and tones.
-use capi_numbers::DecodeAnswer;
-use capi_numbers::EncodeAnswer;
-use capi_numbers::decode_answer;
-use capi_numbers::encode_answer;
-use capi_numbers::index_number;
-use capi_numbers::tenths_of;
 ghost use mathlib.Core.Path.{_≡_};
 ghost use lib.ListN.{length};
 ghost use Rattle.m17.specs.Address.{encoding, decoding, decodedInto};
@@ -13,18 +7,21 @@ ghost use Rattle.capi_numbers.specs.Numbers.{encodeAnswer, decodeAnswer, tenths
 
 // A callsign's address number; 0 beside a refusal.
 #[no_mangle]
-pub extern "C" fn codeplug_encode_callsign(text: &[u8]) -> EncodeAnswer
+pub extern "C" fn codeplug_encode_callsign(text: &[u8]) -> capi_numbers::EncodeAnswer
     ensures { λ r. ⌜ r ≡ encodeAnswer (encoding (now (text .entry))) ⌝ }
 {
-    encode_answer(m17_encoder::encode(text))
+    capi_numbers::encode_answer(m17_encoder::encode(text))
 }
 
 // An address number's text, into the first nine bytes of the buffer, and its length; broadcast has none.
 #[no_mangle]
-pub extern "C" fn codeplug_decode_address(address: u64, out: &mut [u8]) -> DecodeAnswer
+pub extern "C" fn codeplug_decode_address(
+    address: u64,
+    out: &mut [u8],
+) -> capi_numbers::DecodeAnswer
     ensures { λ r. ⌜ (r ≡ decodeAnswer (decoding (length (now (out .entry))) address)) × (now (out .exit) ≡ decodedInto (now (out .entry)) address) ⌝ }
 {
-    decode_answer(m17_decoder::decode(address, out))
+    capi_numbers::decode_answer(m17_decoder::decode(address, out))
 }
 
 // The frequency of a tone, in tenths of a hertz; 0 past the table.
@@ -32,7 +29,7 @@ pub extern "C" fn codeplug_decode_address(address: u64, out: &mut [u8]) -> Decod
 pub extern "C" fn codeplug_tone_frequency(index: u8) -> u16
     ensures { λ r. ⌜ r ≡ tenthsOf (frequencyOf index) ⌝ }
 {
-    tenths_of(tones::frequency_of(index))
+    capi_numbers::tenths_of(tones::frequency_of(index))
 }
 
 // The index of a frequency; 255 where the table has it not.
@@ -40,5 +37,5 @@ pub extern "C" fn codeplug_tone_frequency(index: u8) -> u16
 pub extern "C" fn codeplug_tone_index(tenths: u16) -> u8
     ensures { λ r. ⌜ r ≡ indexNumber (indexOf tenths) ⌝ }
 {
-    index_number(tones::index_of(tenths))
+    capi_numbers::index_number(tones::index_of(tenths))
 }

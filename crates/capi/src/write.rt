@@ -1,8 +1,4 @@
 // Contacts and channels written over the beginning of a buffer.
-use capi_numbers::ContactFields;
-use capi_numbers::InfoFields;
-use capi_numbers::Refusal;
-use channel::Common;
 ghost use Rattle.capi_write.specs.Contacts.{ContactAnswered};
 ghost use Rattle.capi_write.specs.Channels.{ChannelAnswered};
 
@@ -11,8 +7,8 @@ ghost use Rattle.capi_write.specs.Channels.{ChannelAnswered};
 pub extern "C" fn codeplug_write_contact(
     out: &mut [u8],
     name: &[u8],
-    values: ContactFields,
-) -> Refusal
+    values: capi_numbers::ContactFields,
+) -> capi_numbers::Refusal
     ensures { λ r. ⌜ ContactAnswered (now (out .entry)) (now (name .entry)) values r (now (out .exit)) ⌝ }
 {
     capi_write::contacts::write(out, name, values)
@@ -24,9 +20,9 @@ pub extern "C" fn codeplug_write_channel(
     out: &mut [u8],
     name: &[u8],
     description: &[u8],
-    common: Common,
-    info: InfoFields,
-) -> Refusal
+    common: channel::Common,
+    info: capi_numbers::InfoFields,
+) -> capi_numbers::Refusal
     ensures { λ r. ⌜ ChannelAnswered (now (out .entry)) (now (name .entry)) (now (description .entry)) common info r (now (out .exit)) ⌝ }
 {
     capi_write::channels::write(out, name, description, common, info)

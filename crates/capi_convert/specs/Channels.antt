@@ -1,11 +1,9 @@
 -- A channel as numbers.
 use Prim.Native.Nat.{ℕ}
-use mathlib.Core.Bool.{Bool, true, false}
+use mathlib.Core.Bool.{false}
 use mathlib.Core.List.{List, [], _++_}
 use Rattle.fields.specs.declared.rule.Verdict.the-variants.{Refused}
-use Rattle.tones.specs.Tone.{toneIndex}
-use Rattle.tones.specs.declared.Tone.{Tone}
-use Rattle.tones.specs.declared.Tone.the-variants.{Enabled, Disabled}
+use Rattle.tones.specs.Tone.{toneIndex, toneEnabled}
 use Rattle.channel.specs.Values.{contactIndexNumber}
 use Rattle.channel_reader.specs.Reading.{channelAnswer}
 use Rattle.channel.specs.declared.Info.{Info}
@@ -16,10 +14,6 @@ use Rattle.capi_convert.specs.Texts.{TextsOut}
 use Rattle.capi_numbers.specs.declared.InfoFields.{InfoFields}
 use Rattle.capi_convert.specs.declared.channels.ChannelAnswer.{ChannelAnswer}
 
-abbrev pub toneOn : Tone → Bool
-toneOn (Enabled i) = true
-toneOn (Disabled i) = false
-
 -- the other modes' numbers are 0, and the contact 65,535, which is nobody
 unfoldable pub infoFields : Info → InfoFields
 infoFields (Fm i) =
@@ -27,9 +21,9 @@ infoFields (Fm i) =
       contact = 65535;
       mode = 0;
       «receive_tone» = toneIndex (i .receive);
-      «receive_tone_on» = toneOn (i .receive);
+      «receive_tone_on» = toneEnabled (i .receive);
       «transmit_tone» = toneIndex (i .transmit);
-      «transmit_tone_on» = toneOn (i .transmit);
+      «transmit_tone_on» = toneEnabled (i .transmit);
       colours = record { high = 0; low = 0 };
       slot = 0;
       access = record { high = 0; low = 0 };

@@ -1,11 +1,9 @@
 -- A contact as numbers.
 use Prim.Native.Nat.{ℕ}
-use mathlib.Core.Bool.{Bool, true, false}
+use mathlib.Core.Bool.{false}
 use mathlib.Core.List.{List, []}
 use Rattle.fields.specs.declared.rule.Verdict.the-variants.{Refused}
-use Rattle.m17.specs.Address.{addressNumber}
-use Rattle.m17.specs.declared.Address.{Address}
-use Rattle.m17.specs.declared.Address.the-variants.{Callsign, Broadcast}
+use Rattle.m17.specs.Address.{addressNumber, isBroadcast}
 use Rattle.contact.specs.Contact.{contactAnswer}
 use Rattle.contact.specs.declared.ContactInfo.{ContactInfo}
 use Rattle.contact.specs.declared.ContactInfo.the-variants.{M17, Dmr}
@@ -14,10 +12,6 @@ use Rattle.capi_numbers.specs.Numbers.{refusalOf}
 use Rattle.capi_convert.specs.Texts.{TextsOut}
 use Rattle.capi_numbers.specs.declared.ContactFields.{ContactFields}
 use Rattle.capi_convert.specs.declared.contacts.ContactAnswer.{ContactAnswer}
-
-abbrev pub isBroadcast : Address → Bool
-isBroadcast (Callsign n) = false
-isBroadcast Broadcast = true
 
 -- the other mode's numbers are 0
 abbrev pub contactFields : ContactInfo → ContactFields

@@ -1,27 +1,22 @@
 // A channel as numbers.
 use bits::Halves;
-use capi_numbers::GOOD;
 use capi_numbers::InfoFields;
 use capi_numbers::Refusal;
-use channel::Common;
-use channel::DmrInfo;
-use channel::FmInfo;
 use channel::Info;
-use channel::M17Info;
 use channel::values::contact_index_number;
 use fields::rule::Verdict;
 use format::sizes::CHANNEL_SIZE;
-use tones::Tone;
 use tones::index_in;
+use tones::is_enabled;
 ghost use mathlib.Core.Path.{_≡_};
 ghost use lib.ListN.{length};
 ghost use Rattle.channel_reader.specs.Reading.{infoOf, channelAnswer};
-ghost use Rattle.capi_convert.specs.Channels.{toneOn, infoFields, ChannelOut};
+ghost use Rattle.capi_convert.specs.Channels.{infoFields, ChannelOut};
 
 #[repr(C)]
 pub struct ChannelAnswer {
     pub refusal: Refusal,
-    pub common: Common,
+    pub common: channel::Common,
     pub info: InfoFields,
 }
 
@@ -41,29 +36,20 @@ const NO_INFO: InfoFields = InfoFields {
     position: false,
 };
 
-fn tone_on(t: Tone) -> bool
-    ensures { λ r. ⌜ r ≡ toneOn t ⌝ }
-{
-    match t {
-        Tone::Enabled(_) => true,
-        Tone::Disabled(_) => false,
-    }
-}
-
-fn fm_fields(i: FmInfo) -> InfoFields
+fn fm_fields(i: channel::FmInfo) -> InfoFields
     ensures { λ r. ⌜ r ≡ infoFields (Info.Fm i) ⌝ }
 {
     let receive = i.receive;
     let transmit = i.transmit;
     let mut v = NO_INFO;
     v.receive_tone = index_in(receive);
-    v.receive_tone_on = tone_on(receive);
+    v.receive_tone_on = is_enabled(receive);
     v.transmit_tone = index_in(transmit);
-    v.transmit_tone_on = tone_on(transmit);
+    v.transmit_tone_on = is_enabled(transmit);
     v
 }
 
-fn dmr_fields(i: DmrInfo) -> InfoFields
+fn dmr_fields(i: channel::DmrInfo) -> InfoFields
     ensures { λ r. ⌜ r ≡ infoFields (Info.Dmr i) ⌝ }
 {
     let contact = i.contact;
@@ -76,7 +62,7 @@ fn dmr_fields(i: DmrInfo) -> InfoFields
     v
 }
 
-fn m17_fields(i: M17Info) -> InfoFields
+fn m17_fields(i: channel::M17Info) -> InfoFields
     ensures { λ r. ⌜ r ≡ infoFields (Info.M17 i) ⌝ }
 {
     let contact = i.contact;
@@ -119,7 +105,7 @@ pub fn channel_out(texts: &mut [u8], v: Verdict, s: &[u8]) -> ChannelAnswer
     }
     let whole = &s[0..CHANNEL_SIZE];
     ChannelAnswer {
-        refusal: GOOD,
+        refusal: capi_numbers::GOOD,
         common: channel_reader::common_of(whole),
         info: fields_of(whole),
     }

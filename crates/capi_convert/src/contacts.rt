@@ -1,28 +1,17 @@
 // A contact as numbers.
 use capi_numbers::ContactFields;
-use capi_numbers::Refusal;
 use contact::ContactInfo;
 use fields::rule::Verdict;
-use m17::Address;
 ghost use mathlib.Core.Path.{_≡_};
 ghost use Prim.Native.Nat.{_≤_};
 ghost use lib.ListN.{length};
 ghost use Rattle.contact.specs.Contact.{contactAnswer};
-ghost use Rattle.capi_convert.specs.Contacts.{isBroadcast, contactFields, ContactOut};
+ghost use Rattle.capi_convert.specs.Contacts.{contactFields, ContactOut};
 
 #[repr(C)]
 pub struct ContactAnswer {
-    pub refusal: Refusal,
+    pub refusal: capi_numbers::Refusal,
     pub values: ContactFields,
-}
-
-fn is_broadcast(a: Address) -> bool
-    ensures { λ r. ⌜ r ≡ isBroadcast a ⌝ }
-{
-    match a {
-        Address::Callsign(_) => false,
-        Address::Broadcast => true,
-    }
 }
 
 fn contact_fields(info: ContactInfo) -> ContactFields
@@ -46,7 +35,7 @@ fn contact_fields(info: ContactInfo) -> ContactFields
             mode: contact::M17,
             kind: 0,
             rx_tone: false,
-            broadcast: is_broadcast(a),
+            broadcast: m17::is_broadcast(a),
         },
     }
 }

@@ -1,6 +1,4 @@
 // A record's texts into a lent buffer: 25 where it is too short, then the record's own refusal; beside one it stays as lent.
-use fields::put::bytes32;
-use fields::put::put;
 use fields::rule::Verdict;
 use fields::rule::first;
 use fields::rule::unless;
@@ -19,8 +17,8 @@ fn put_text(out: &mut [u8], at: usize, s: &[u8], k: usize)
     requires { ⌜ (at + 32 ≤ length (now out)) × (k + 32 ≤ length (now s)) ⌝ }
     ensures { λ _. ⌜ now (out .exit) ≡ over (now (out .entry)) at (part (now (s .entry)) k 32) ⌝ }
 {
-    let text = bytes32(s, k);
-    put(out, at, &text);
+    let text = fields::put::bytes32(s, k);
+    fields::put::put(out, at, &text);
 }
 
 // The text that a record begins with.

@@ -1,14 +1,13 @@
 -- A channel written from its numbers.
 use mathlib.Core.Path.{_≡_}
 use Prim.Native.Nat.{ℕ}
-use mathlib.Core.Bool.{Bool, cond}
+use mathlib.Core.Bool.{cond}
 use mathlib.Core.List.{List}
 use lib.ListN.{length}
 use lib.Dec.{eqb, leb}
 use Rattle.fields.specs.Rule.{_then_, unless, written}
 use Rattle.fields.specs.declared.rule.Verdict.{Verdict}
-use Rattle.tones.specs.declared.Tone.{Tone}
-use Rattle.tones.specs.declared.Tone.the-variants.{Enabled, Disabled}
+use Rattle.tones.specs.Tone.{toneFrom}
 use Rattle.channel.specs.Values.{modeOk, contactIndexOf}
 use Rattle.channel.specs.declared.Common.{Common}
 use Rattle.channel.specs.declared.Info.{Info}
@@ -17,9 +16,6 @@ use Rattle.channel_writer.specs.Writing.{channelGiven, channelBytes}
 use Rattle.capi_numbers.specs.Numbers.{refusalOf}
 use Rattle.capi_numbers.specs.declared.Refusal.{Refusal}
 use Rattle.capi_numbers.specs.declared.InfoFields.{InfoFields}
-
-abbrev pub toneFrom : ℕ → Bool → Tone
-toneFrom i on = cond on (Enabled i) (Disabled i)
 
 -- what the numbers mean, the other modes' unread; only of use where the mode is good
 unfoldable pub infoFrom : InfoFields → Info

@@ -1,30 +1,15 @@
 // A channel written from its numbers.
 use capi_numbers::InfoFields;
-use capi_numbers::Refusal;
 use capi_numbers::refusal_of;
-use channel::Common;
-use channel::DmrInfo;
-use channel::FmInfo;
 use channel::Info;
-use channel::M17Info;
 use fields::rule::Verdict;
 use fields::rule::first;
 use fields::rule::unless;
 use format::refusals::MODE;
 use format::refusals::SHORT_BUFFER;
-use tones::Tone;
+use tones::tone_from;
 ghost use mathlib.Core.Path.{_≡_};
-ghost use Rattle.capi_write.specs.Channels.{toneFrom, infoFrom, ChannelAnswered};
-
-fn tone_from(index: u8, on: bool) -> Tone
-    ensures { λ r. ⌜ r ≡ toneFrom index on ⌝ }
-{
-    if on {
-        Tone::Enabled(index)
-    } else {
-        Tone::Disabled(index)
-    }
-}
+ghost use Rattle.capi_write.specs.Channels.{infoFrom, ChannelAnswered};
 
 // The info that the numbers mean; any mode but 0 and 1 is taken for M17.
 fn info_from(v: InfoFields) -> Info
@@ -32,21 +17,21 @@ fn info_from(v: InfoFields) -> Info
 {
     let contact = channel::values::contact_index_of(v.contact);
     if v.mode == channel::FM {
-        return Info::Fm(FmInfo {
+        return Info::Fm(channel::FmInfo {
             receive: tone_from(v.receive_tone, v.receive_tone_on),
             transmit: tone_from(v.transmit_tone, v.transmit_tone_on),
         });
     }
     if v.mode == channel::DMR {
         let colours = v.colours;
-        return Info::Dmr(DmrInfo {
+        return Info::Dmr(channel::DmrInfo {
             colours,
             slot: v.slot,
             contact,
         });
     }
     let access = v.access;
-    Info::M17(M17Info {
+    Info::M17(channel::M17Info {
         access,
         operation: v.operation,
         encryption: v.encryption,
@@ -60,9 +45,9 @@ pub fn write(
     out: &mut [u8],
     name: &[u8],
     description: &[u8],
-    common: Common,
+    common: channel::Common,
     info: InfoFields,
-) -> Refusal
+) -> capi_numbers::Refusal
     ensures { λ r. ⌜ ChannelAnswered (now (out .entry)) (now (name .entry)) (now (description .entry)) common info r (now (out .exit)) ⌝ }
 {
     if 2 < info.mode {

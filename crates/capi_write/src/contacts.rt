@@ -1,10 +1,7 @@
 // A contact written from its numbers.
 use capi_numbers::ContactFields;
-use capi_numbers::Refusal;
 use capi_numbers::refusal_of;
 use contact::ContactInfo;
-use contact::DmrContact;
-use contact::Settings;
 use fields::rule::Verdict;
 use fields::rule::first;
 use fields::rule::unless;
@@ -19,11 +16,11 @@ fn info_from(v: ContactFields) -> ContactInfo
     ensures { λ r. ⌜ r ≡ infoFrom v ⌝ }
 {
     if v.mode == contact::DMR {
-        let settings = Settings {
+        let settings = contact::Settings {
             kind: v.kind,
             rx_tone: v.rx_tone,
         };
-        return ContactInfo::Dmr(DmrContact { id: v.id, settings });
+        return ContactInfo::Dmr(contact::DmrContact { id: v.id, settings });
     }
     if v.broadcast {
         return ContactInfo::M17(Address::Broadcast);
@@ -32,7 +29,7 @@ fn info_from(v: ContactFields) -> ContactInfo
 }
 
 // Writes a contact's 39 bytes.
-pub fn write(out: &mut [u8], name: &[u8], values: ContactFields) -> Refusal
+pub fn write(out: &mut [u8], name: &[u8], values: ContactFields) -> capi_numbers::Refusal
     ensures { λ r. ⌜ ContactAnswered (now (out .entry)) (now (name .entry)) values r (now (out .exit)) ⌝ }
 {
     let mode = values.mode;

@@ -116,6 +116,10 @@ addressNumber Broadcast = broadcast
 unfoldable pub addressFor : ℕ → Address
 addressFor n = cond (eqb n broadcast) Broadcast (Callsign n)
 
+abbrev pub isBroadcast : Address → Bool
+isBroadcast (Callsign n) = false
+isBroadcast Broadcast = true
+
 -- a callsign's number that is one
 unfoldable pub addressGood : Address → Bool
 addressGood (Callsign n) = isCallsign n

@@ -1,6 +1,6 @@
 // M17 addresses: which numbers are addresses, and what they mean (document 01, "M17 addresses").
 ghost use mathlib.Core.Path.{_≡_};
-ghost use Rattle.m17.specs.Address.{addressOk, addressFor, addressNumber, addressGood, isCallsign};
+ghost use Rattle.m17.specs.Address.{addressOk, addressFor, addressNumber, addressGood, isBroadcast, isCallsign};
 
 // What an address field of a contact means.
 pub enum Address {
@@ -56,6 +56,15 @@ pub fn address_number(a: Address) -> u64
     match a {
         Address::Callsign(n) => n,
         Address::Broadcast => BROADCAST,
+    }
+}
+
+pub fn is_broadcast(a: Address) -> bool
+    ensures { λ r. ⌜ r ≡ isBroadcast a ⌝ }
+{
+    match a {
+        Address::Callsign(_) => false,
+        Address::Broadcast => true,
     }
 }
 

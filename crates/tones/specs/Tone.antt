@@ -1,7 +1,7 @@
 -- Tones (document 01, "The file"): the top bit of a tone byte says enabled and the other seven are the index, 0 to 49, in the table of
 -- 50 tones of source 000. A disabled tone keeps its index and the same rule.
 use Prim.Native.Nat.{ℕ, suc, _+_, _%_}
-use mathlib.Core.Bool.{Bool, cond}
+use mathlib.Core.Bool.{Bool, true, false, cond}
 use mathlib.Core.List.{List, [], _∷_}
 use lib.ListN.{getD}
 use lib.Dec.{leb, ltb, eqb}
@@ -35,6 +35,13 @@ toneOf b = cond (leb 128 b) (Enabled (b % 128)) (Disabled (b % 128))
 unfoldable pub toneIndex : Tone → ℕ
 toneIndex (Enabled i) = i
 toneIndex (Disabled i) = i
+
+abbrev pub toneEnabled : Tone → Bool
+toneEnabled (Enabled i) = true
+toneEnabled (Disabled i) = false
+
+abbrev pub toneFrom : ℕ → Bool → Tone
+toneFrom i enabled = cond enabled (Enabled i) (Disabled i)
 
 unfoldable pub toneByte : Tone → ℕ
 toneByte (Enabled i) = 128 + i

@@ -2,7 +2,7 @@
 ghost use mathlib.Core.Path.{_≡_};
 ghost use mathlib.Core.Bool.{true};
 ghost use Prim.Native.Nat.{_+_, _<_};
-ghost use Rattle.tones.specs.Tone.{toneOk, toneOf, toneByte, toneGood, toneIndex, frequencyOf, indexOf};
+ghost use Rattle.tones.specs.Tone.{toneOk, toneOf, toneByte, toneGood, toneIndex, toneEnabled, toneFrom, frequencyOf, indexOf};
 
 // A tone by its index in the table. A disabled tone keeps its index: a blank tone is Disabled(0), never Enabled(0).
 pub enum Tone {
@@ -120,6 +120,26 @@ pub fn index_in(t: Tone) -> u8
     match t {
         Tone::Enabled(i) => i,
         Tone::Disabled(i) => i,
+    }
+}
+
+pub fn is_enabled(t: Tone) -> bool
+    ensures { λ r. ⌜ r ≡ toneEnabled t ⌝ }
+{
+    match t {
+        Tone::Enabled(_) => true,
+        Tone::Disabled(_) => false,
+    }
+}
+
+// A tone from its index and whether it is enabled.
+pub fn tone_from(i: u8, enabled: bool) -> Tone
+    ensures { λ r. ⌜ r ≡ toneFrom i enabled ⌝ }
+{
+    if enabled {
+        Tone::Enabled(i)
+    } else {
+        Tone::Disabled(i)
     }
 }
 

@@ -1,6 +1,6 @@
 -- By the flag.
-use Rattle.capi_write.proofs.channels.tone_from.Statement.{statement}
-use Rattle.capi_write.proofs.channels.tone_from.Tie as tie
+use Rattle.tones.proofs.tone_from.Statement.{statement}
+use Rattle.tones.proofs.tone_from.Tie as tie
 
 returns : tie.Need-returns
 returns c = rw (c .if1 .taken)
