@@ -22,7 +22,7 @@ const KINDS: [&str; 12] = [
     "rename bank",
     "insert entry",
     "remove entry",
-    "set title",
+    "set header",
 ];
 
 const SPOTS: [&str; 3] = ["front", "middle", "end"];

@@ -13,7 +13,7 @@ pub fn three(count: usize) -> [usize; 3] {
     [0, count / 2, count - 1]
 }
 
-/// A good file of `size - SPARE` bytes, 16 KiB or more. The seed changes its records, and none of its counts.
+/// A valid file of `size - SPARE` bytes, 16 KiB or more. The seed changes its records, and none of its counts.
 pub fn typical(size: usize, seed: u64) -> Vec<u8> {
     let rng = &mut Rng::new(seed);
     let length = size - SPARE;
@@ -32,20 +32,33 @@ pub fn typical(size: usize, seed: u64) -> Vec<u8> {
         .map(|n| (n as u16, made[n].info.mode()))
         .collect();
 
-    let mut file = b"RTXC\0\0\0\0\x01\0".to_vec();
-    file.extend(text(rng, 16));
-    file.extend(text(rng, 32));
-    file.extend(1_700_000_000u64.to_le_bytes());
-    for count in [contacts, channels, banks] {
-        file.extend((count as u16).to_le_bytes());
-    }
+    let mut file = header(rng, [contacts, channels, banks]);
     for contact in &made {
         file.extend(sample::contact_bytes(contact));
     }
     for _ in 0..channels {
         file.extend(sample::channel_bytes(&channel(rng, &named)));
     }
-    let held = |n: usize| if n + 1 == banks { 24 + left } else { 24 };
+    add_banks(&mut file, rng, banks, left, channels);
+    assert_eq!(file.len(), length);
+    obcf_second::codeplug::validate(&file).expect("a valid file");
+    file
+}
+
+fn header(rng: &mut Rng, counts: [usize; 3]) -> Vec<u8> {
+    let mut header = b"RTXC\0\0\0\0\x01\0".to_vec();
+    header.extend(text(rng, 16));
+    header.extend(text(rng, 32));
+    header.extend(1_700_000_000u64.to_le_bytes());
+    for count in counts {
+        header.extend((count as u16).to_le_bytes());
+    }
+    header
+}
+
+/// The offset table and banks of 24 entries, the last with so many more.
+fn add_banks(file: &mut Vec<u8>, rng: &mut Rng, banks: usize, more: usize, channels: usize) {
+    let held = |n: usize| if n + 1 == banks { 24 + more } else { 24 };
     let mut offset = 0;
     for n in 0..banks {
         file.extend((offset as u32).to_le_bytes());
@@ -65,9 +78,6 @@ pub fn typical(size: usize, seed: u64) -> Vec<u8> {
             file.extend(entry.to_le_bytes());
         }
     }
-    assert_eq!(file.len(), length);
-    obcf_second::judge(&file).expect("a good file");
-    file
 }
 
 /// A text of 4 to `most` characters, with its padding.

@@ -1,4 +1,5 @@
-//! A build of the library loaded from its file, libcodeplug.so, which has to be of this include/codeplug.h: the functions that are timed.
+//! A build of the library loaded from its file, libcodeplug.so: the functions that are timed. They have to be those of this
+//! bindings/c/include/codeplug.h, or the same under their former names.
 
 use codeplug::c;
 use std::ffi::{c_char, c_int, c_void, CStr, CString};
@@ -24,11 +25,29 @@ fn opened(path: &str) -> *mut c_void {
     library
 }
 
-fn symbol(library: *mut c_void, name: &str) -> *mut c_void {
+/// What a library from before version 1.0.0 calls a function.
+const FORMER: [(&str, &str); 5] = [
+    ("codeplug_validate", "codeplug_judge"),
+    ("codeplug_contact_prevalidated", "codeplug_contact_once"),
+    ("codeplug_channel_prevalidated", "codeplug_channel_once"),
+    ("codeplug_bank_prevalidated", "codeplug_bank_once"),
+    (
+        "codeplug_bank_entry_prevalidated",
+        "codeplug_bank_entry_once",
+    ),
+];
+
+fn find(library: *mut c_void, name: &str) -> Option<*mut c_void> {
     let name = CString::new(name).expect("a name");
     let found = unsafe { dlsym(library, name.as_ptr()) };
-    assert!(!found.is_null(), "the library has no {name:?}");
-    found
+    (!found.is_null()).then_some(found)
+}
+
+fn symbol(library: *mut c_void, name: &str) -> *mut c_void {
+    let former = FORMER.iter().find(|(now, _)| *now == name);
+    find(library, name)
+        .or_else(|| find(library, former?.1))
+        .unwrap_or_else(|| panic!("the library has no {name}"))
 }
 
 macro_rules! functions {
@@ -46,7 +65,7 @@ macro_rules! functions {
             /// Loads a library for as long as the program runs.
             pub fn load(path: &str) -> &'static Library {
                 let library = opened(path);
-                // Each is declared as rust/src/c.rs declares it.
+                // Each is declared as bindings/rust/src/c.rs declares it.
                 Box::leak(Box::new(Library {
                     $($name: unsafe {
                         transmute::<*mut c_void, unsafe extern "C" fn($($type),*) -> $answer>(symbol(library, stringify!($name)))
@@ -58,13 +77,13 @@ macro_rules! functions {
 }
 
 functions! {
-    codeplug_judge(*const u8, usize) -> c::JudgeAnswer;
-    codeplug_contact_once(*const u8, usize, usize, *mut u8, usize) -> c::ContactAnswer;
-    codeplug_channel_once(*const u8, usize, usize, *mut u8, usize) -> c::ChannelAnswer;
-    codeplug_bank_once(*const u8, usize, usize, *mut u8, usize) -> c::BankAnswer;
-    codeplug_bank_entry_once(*const u8, usize, usize, usize) -> c::EntryAnswer;
+    codeplug_validate(*const u8, usize) -> c::ValidateAnswer;
+    codeplug_contact_prevalidated(*const u8, usize, usize, *mut u8, usize) -> c::ContactAnswer;
+    codeplug_channel_prevalidated(*const u8, usize, usize, *mut u8, usize) -> c::ChannelAnswer;
+    codeplug_bank_prevalidated(*const u8, usize, usize, *mut u8, usize) -> c::BankAnswer;
+    codeplug_bank_entry_prevalidated(*const u8, usize, usize, usize) -> c::BankEntryAnswer;
     codeplug_encode_callsign(*const u8, usize) -> c::EncodeAnswer;
     codeplug_decode_address(u64, *mut u8, usize) -> c::DecodeAnswer;
-    codeplug_edit(*mut u8, usize, usize, *mut u8, usize, usize, usize, usize, usize, *const u8, usize) -> c::CallAnswer;
-    codeplug_undo(*mut u8, usize, usize, *mut u8, usize, usize) -> c::CallAnswer;
+    codeplug_edit(*mut u8, usize, usize, *mut u8, usize, usize, usize, usize, usize, *const u8, usize) -> c::EditAnswer;
+    codeplug_undo(*mut u8, usize, usize, *mut u8, usize, usize) -> c::EditAnswer;
 }

@@ -27,6 +27,6 @@ fn main() {
         ["against", this, other] => against::print(this, other),
         ["plot", path] => plot::write(path),
         ["profile", maker, what, kind, times] => profile::run(maker, what, number(kind), number(times)),
-        _ => eprintln!("usage: bench/run [addresses | against THIS.so OTHER.so | plot FILE.svg | profile proved|second|lean judge|read|edit|undo KIND TIMES]"),
+        _ => eprintln!("usage: bench/run [addresses | against THIS.so OTHER.so | plot FILE.svg | profile proved|second|lean validate|read|edit|undo KIND TIMES]"),
     }
 }

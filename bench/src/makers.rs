@@ -1,4 +1,4 @@
-//! The three that are timed, behind one face.
+//! The three that are timed, with the same functions.
 
 use crate::lean;
 use crate::library::{Library, LINKED};
@@ -61,7 +61,7 @@ impl Set {
     }
 }
 
-fn answer(a: c::CallAnswer) -> Result<Answer, Refusal> {
+fn answer(a: c::EditAnswer) -> Result<Answer, Refusal> {
     match a.number {
         0 => Ok(Answer {
             length: a.length,
@@ -120,10 +120,10 @@ impl Maker {
         }
     }
 
-    pub fn judge(self, file: &[u8]) -> Result<[u16; 3], Refusal> {
+    pub fn validate(self, file: &[u8]) -> Result<[u16; 3], Refusal> {
         let counts = match self {
             Maker::Proved(library) => {
-                let a = unsafe { (library.codeplug_judge)(file.as_ptr(), file.len()) };
+                let a = unsafe { (library.codeplug_validate)(file.as_ptr(), file.len()) };
                 return match a.number {
                     0 => Ok([a.contacts, a.channels, a.banks]),
                     number => Err(Refusal {
@@ -132,8 +132,8 @@ impl Maker {
                     }),
                 };
             }
-            Maker::Second => obcf_second::judge(file)?,
-            Maker::Lean => lean::judge::judge(file)?,
+            Maker::Second => obcf_second::codeplug::validate(file)?,
+            Maker::Lean => lean::validate::validate(file)?,
         };
         Ok([counts.contacts, counts.channels, counts.banks])
     }

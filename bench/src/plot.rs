@@ -2,13 +2,13 @@
 
 use crate::batch::{per_byte, Batch};
 use crate::makers::{Maker, MAKERS};
-use crate::work::{Calling, Judging};
+use crate::work::{Calling, Validating};
 use obcf_second::edit::Edit;
 use std::fmt::Write;
 
 const RUNS: usize = 31;
 const KIB: [usize; 8] = [16, 32, 64, 128, 256, 512, 768, 1024];
-const PANELS: [&str; 3] = ["judge", "edit: insert a channel", "undo of that edit"];
+const PANELS: [&str; 3] = ["validate", "edit: insert a channel", "undo of that edit"];
 
 /// A size in bytes, and the microseconds of one call of each maker.
 type Point = (f64, [f64; 3]);
@@ -22,7 +22,7 @@ fn measure() -> [Vec<Point>; 3] {
         .map(|(batch, edits)| batch.edited(&MAKERS, edits))
         .collect();
     let times = [
-        per_byte(RUNS, &batches, MAKERS, |_, sets, maker| Judging {
+        per_byte(RUNS, &batches, MAKERS, |_, sets, maker| Validating {
             maker,
             sets,
         }),

@@ -3,11 +3,11 @@
 use crate::batch::Batch;
 use crate::makers::{Maker, MAKERS};
 use crate::timing::Timed;
-use crate::work::{Calling, Judging, Reading};
+use crate::work::{Calling, Reading, Validating};
 
 const SIZE: usize = 1 << 20;
 
-/// `judge`, `read`, `edit KIND` or `undo KIND` (in the middle of its list), by `proved`, `second` or `lean`.
+/// `validate`, `read`, `edit KIND` or `undo KIND` (in the middle of its list), by `proved`, `second` or `lean`.
 pub fn run(maker: &str, what: &str, kind: usize, times: usize) {
     let maker = match maker {
         "proved" => MAKERS[0],
@@ -22,7 +22,7 @@ pub fn run(maker: &str, what: &str, kind: usize, times: usize) {
         .find(|(case, _)| case.middle && case.edit.kind == kind as u64);
     let edits = case.map(|(_, edits)| edits.as_slice()).unwrap_or_default();
     match what {
-        "judge" => repeat(times, Judging { maker, sets }),
+        "validate" => repeat(times, Validating { maker, sets }),
         "read" => repeat(times, Reading { maker, sets }),
         "edit" => repeat(times, Calling::new(maker, sets, Some(edits))),
         _ => repeat(

@@ -3,7 +3,7 @@
 use crate::batch::{per_byte, Batch};
 use crate::makers::{Maker, MAKERS};
 use crate::timing::medians;
-use crate::work::{Calling, Decoding, Encoding, Judging, Listing, Reading};
+use crate::work::{Calling, Decoding, Encoding, Listing, Reading, Validating};
 use obcf_second::address::number_to_text;
 use obcf_second::edit::Edit;
 use obcf_second::sample::{self, Rng};
@@ -13,9 +13,9 @@ const RUNS: usize = 41;
 /// A row's name and the medians of some makers, for each batch.
 pub type Row<const N: usize> = (String, Vec<[f64; N]>);
 
-/// Nanoseconds per byte of judging and reading.
+/// Nanoseconds per byte of validating and reading.
 fn reading<const N: usize>(batches: &[Batch], makers: [Maker; N]) -> Vec<Row<N>> {
-    let judge = per_byte(RUNS, batches, makers, |_, sets, maker| Judging {
+    let validate = per_byte(RUNS, batches, makers, |_, sets, maker| Validating {
         maker,
         sets,
     });
@@ -28,8 +28,8 @@ fn reading<const N: usize>(batches: &[Batch], makers: [Maker; N]) -> Vec<Row<N>>
         sets,
     });
     vec![
-        ("judge".to_string(), judge),
-        ("judge, beside a reader".to_string(), list),
+        ("validate".to_string(), validate),
+        ("validate, beside a reader".to_string(), list),
         ("read every record".to_string(), read),
     ]
 }

@@ -12,7 +12,7 @@ const SHAPE: Shape = Shape {
 };
 
 #[test]
-fn judging_agrees() {
+fn validation_agrees() {
     let rng = &mut Rng::new(1);
     for _ in 0..20_000 {
         let mut file = sample::file(rng, SHAPE);
@@ -25,7 +25,7 @@ fn judging_agrees() {
         if rng.one_in(8) {
             file.truncate(rng.below(file.len() + 1));
         }
-        let [a, b, c] = MAKERS.map(|maker| maker.judge(&file));
+        let [a, b, c] = MAKERS.map(|maker| maker.validate(&file));
         assert!(a == b && b == c, "{a:?} {b:?} {c:?}");
     }
 }

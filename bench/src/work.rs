@@ -9,20 +9,20 @@ use obcf_second::edit::Edit;
 use obcf_second::Codeplug;
 use std::hint::black_box;
 
-pub struct Judging<'a> {
+pub struct Validating<'a> {
     pub maker: Maker,
     pub sets: &'a [Set],
 }
 
-impl Timed for Judging<'_> {
+impl Timed for Validating<'_> {
     fn call(&mut self) {
         for set in self.sets {
-            black_box(self.maker.judge(black_box(set.file()))).expect("accepted");
+            black_box(self.maker.validate(black_box(set.file()))).expect("accepted");
         }
     }
 }
 
-/// The proved library judges; the others read the file into lists.
+/// The proved library validates; the others read the file into lists.
 pub struct Listing<'a> {
     pub maker: Maker,
     pub sets: &'a [Set],
@@ -34,7 +34,7 @@ impl Timed for Listing<'_> {
             let file = black_box(set.file());
             match self.maker {
                 Maker::Proved(_) => {
-                    black_box(self.maker.judge(file)).expect("accepted");
+                    black_box(self.maker.validate(file)).expect("accepted");
                 }
                 Maker::Second => drop(black_box(Codeplug::read(file)).expect("accepted")),
                 Maker::Lean => drop(black_box(lean::read::lists(file)).expect("accepted")),
@@ -43,7 +43,7 @@ impl Timed for Listing<'_> {
     }
 }
 
-/// Judges, then reads every contact, channel, bank and entry.
+/// Validates, then reads every contact, channel, bank and entry.
 pub struct Reading<'a> {
     pub maker: Maker,
     pub sets: &'a [Set],
@@ -68,18 +68,18 @@ fn read_proved(c: &Library, file: &[u8]) {
     let into = texts.as_mut_ptr();
     // Pointers and lengths are those of `file` and `texts`.
     unsafe {
-        let counts = (c.codeplug_judge)(at, length);
+        let counts = (c.codeplug_validate)(at, length);
         assert_eq!(counts.number, 0);
         for n in 0..usize::from(counts.contacts) {
-            black_box(&(c.codeplug_contact_once)(at, length, n, into, 32));
+            black_box(&(c.codeplug_contact_prevalidated)(at, length, n, into, 32));
         }
         for n in 0..usize::from(counts.channels) {
-            black_box(&(c.codeplug_channel_once)(at, length, n, into, 64));
+            black_box(&(c.codeplug_channel_prevalidated)(at, length, n, into, 64));
         }
         for n in 0..usize::from(counts.banks) {
-            let bank = (c.codeplug_bank_once)(at, length, n, into, 32);
+            let bank = (c.codeplug_bank_prevalidated)(at, length, n, into, 32);
             for i in 0..usize::from(bank.entries) {
-                black_box(&(c.codeplug_bank_entry_once)(at, length, n, i));
+                black_box(&(c.codeplug_bank_entry_prevalidated)(at, length, n, i));
             }
         }
     }

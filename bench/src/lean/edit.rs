@@ -1,8 +1,8 @@
 //! The twelve edits and undo, by a changed copy of the file.
 
 use super::history;
-use super::judge::judge;
 use super::layout::Layout;
+use super::validate::validate;
 use obcf_second::edit::{Answer, Edit};
 use obcf_second::{Counts, Reason, Refusal};
 
@@ -15,7 +15,7 @@ pub fn edit(
 ) -> Result<Answer, Refusal> {
     let (file, counts, ends) = open(room, length, past, used)?;
     let new = apply(file, counts, edit)?;
-    judge(&new)?;
+    validate(&new)?;
     refuse_unless(new.len() <= room.len(), Reason::RoomFull)?;
     let entry = history::entry(file, &new);
     refuse_unless(entry.len() <= past.len(), Reason::HistoryFull)?;
@@ -46,7 +46,7 @@ pub fn undo(
     let (file, _, ends) = open(room, length, past, used)?;
     let top = *ends.first().ok_or(Refusal::from(Reason::HistoryEmpty))?;
     let restored = taken_back(file, &past[..used])
-        .filter(|restored| restored.len() <= room.len() && judge(restored).is_ok())
+        .filter(|restored| restored.len() <= room.len() && validate(restored).is_ok())
         .ok_or(Refusal::from(Reason::EntryDoesNotFit))?;
 
     past.copy_within(top..used, 0);
@@ -60,8 +60,8 @@ pub fn undo(
     })
 }
 
-fn refuse_unless(good: bool, reason: Reason) -> Result<(), Refusal> {
-    good.then_some(()).ok_or(reason.into())
+fn refuse_unless(allowed: bool, reason: Reason) -> Result<(), Refusal> {
+    allowed.then_some(()).ok_or(reason.into())
 }
 
 /// Zeros from the new length up to the old.
@@ -80,7 +80,7 @@ fn open<'a>(
     let stated = Refusal::from(Reason::StatedLength);
     let file = room.get(..length).ok_or(stated)?;
     let past = past.get(..used).ok_or(stated)?;
-    let counts = judge(file)?;
+    let counts = validate(file)?;
     Ok((file, counts, history::ends(past)?))
 }
 
@@ -95,14 +95,22 @@ fn spliced(file: &[u8], at: usize, gone: usize, new: &[u8]) -> Vec<u8> {
     [&file[..at], new, &file[at + gone..]].concat()
 }
 
-/// The file after an edit: 32, 33, 34, 35. The result is not judged.
+/// The file after an edit: 32, 33, 34, 35. The result is not validated.
 fn apply(file: &[u8], counts: Counts, edit: &Edit) -> Result<Vec<u8>, Refusal> {
-    let &Edit {
-        kind,
-        first,
-        second,
-        ref record,
-    } = edit;
+    let l = Layout::of(counts);
+    check(&l, edit)?;
+    match edit.kind {
+        1..=3 => contact_edit(file, &l, edit),
+        4..=6 => channel_edit(file, &l, edit),
+        7..=9 => bank_edit(file, &l, edit),
+        10 | 11 => entry_edit(file, &l, edit),
+        _ => Ok(spliced(file, 10, 72, &edit.record)),
+    }
+}
+
+/// 32, and 33 but for an entry's place.
+fn check(l: &Layout, edit: &Edit) -> Result<(), Refusal> {
+    let kind = edit.kind;
     let size = match kind {
         1 | 3 => 39,
         4 | 6 => 90,
@@ -112,8 +120,7 @@ fn apply(file: &[u8], counts: Counts, edit: &Edit) -> Result<Vec<u8>, Refusal> {
         2 | 5 | 8 | 11 => 0,
         _ => return Err(Reason::NoSuchEdit.into()),
     };
-    refuse_unless(record.len() == size, Reason::NoSuchEdit)?;
-    let l = Layout::of(counts);
+    refuse_unless(edit.record.len() == size, Reason::NoSuchEdit)?;
     let places = match kind {
         1..=3 => l.contacts + usize::from(kind == 1),
         4..=6 => l.channels + usize::from(kind == 4),
@@ -121,45 +128,56 @@ fn apply(file: &[u8], counts: Counts, edit: &Edit) -> Result<Vec<u8>, Refusal> {
         10 | 11 => l.banks,
         _ => 1,
     };
-    refuse_unless(first < places, Reason::NoSuchPlace)?;
-    if let 10 | 11 = kind {
-        return entry_edit(file, &l, edit);
-    }
-    refuse_unless(second == 0, Reason::NoSuchPlace)?;
+    let second = edit.second == 0 || matches!(kind, 10 | 11);
+    refuse_unless(edit.first < places && second, Reason::NoSuchPlace)
+}
 
-    let full = |count: usize| refuse_unless(count < 65_535, Reason::CountFull);
-    Ok(match kind {
+fn not_full(count: usize) -> Result<(), Refusal> {
+    refuse_unless(count < 65_535, Reason::CountFull)
+}
+
+/// Edits 1, 2 and 3.
+fn contact_edit(file: &[u8], l: &Layout, edit: &Edit) -> Result<Vec<u8>, Refusal> {
+    let (first, at) = (edit.first, l.contact_at(edit.first));
+    match edit.kind {
         1 => {
-            full(l.contacts)?;
-            let mut new = spliced(file, l.contact_at(first), 0, record);
+            not_full(l.contacts)?;
+            let mut new = spliced(file, at, 0, &edit.record);
             add_at(&mut new, 82, 1);
             contact_indexes(&mut new[l.channel_at(0) + 39..][..90 * l.channels], |n| {
                 n + u16::from(usize::from(n) >= first)
             });
-            new
+            Ok(new)
         }
         2 => {
             let channels = &file[l.channel_at(0)..][..90 * l.channels];
             refuse_unless(!names(channels, first as u16), Reason::InUse)?;
-            let mut new = spliced(file, l.contact_at(first), 39, &[]);
+            let mut new = spliced(file, at, 39, &[]);
             add_at(&mut new, 82, -1);
             contact_indexes(&mut new[l.channel_at(0) - 39..][..90 * l.channels], |n| {
                 n - u16::from(usize::from(n) > first)
             });
-            new
+            Ok(new)
         }
-        3 => spliced(file, l.contact_at(first), 39, record),
+        _ => Ok(spliced(file, at, 39, &edit.record)),
+    }
+}
+
+/// Edits 4, 5 and 6.
+fn channel_edit(file: &[u8], l: &Layout, edit: &Edit) -> Result<Vec<u8>, Refusal> {
+    let (first, at) = (edit.first, l.channel_at(edit.first));
+    match edit.kind {
         4 => {
-            full(l.channels)?;
-            let mut new = spliced(file, l.channel_at(first), 0, record);
+            not_full(l.channels)?;
+            let mut new = spliced(file, at, 0, &edit.record);
             add_at(&mut new, 84, 1);
             entries(&mut new[l.bank_start() + 90..], |n| {
                 *n += u16::from(usize::from(*n) >= first)
             });
-            new
+            Ok(new)
         }
         5 => {
-            let mut new = spliced(file, l.channel_at(first), 90, &[]);
+            let mut new = spliced(file, at, 90, &[]);
             add_at(&mut new, 84, -1);
             let mut held = false;
             entries(&mut new[l.bank_start() - 90..], |n| {
@@ -167,43 +185,37 @@ fn apply(file: &[u8], counts: Counts, edit: &Edit) -> Result<Vec<u8>, Refusal> {
                 *n -= u16::from(usize::from(*n) > first);
             });
             refuse_unless(!held, Reason::InUse)?;
-            new
+            Ok(new)
         }
-        6 => spliced(file, l.channel_at(first), 90, record),
+        _ => Ok(spliced(file, at, 90, &edit.record)),
+    }
+}
+
+/// Edits 7, 8 and 9.
+fn bank_edit(file: &[u8], l: &Layout, edit: &Edit) -> Result<Vec<u8>, Refusal> {
+    let first = edit.first;
+    let (at, table) = (l.bank_at(file, first), l.offset_at(first));
+    match edit.kind {
         7 => {
-            full(l.banks)?;
-            let (at, table) = (l.bank_at(file, first), l.offset_at(first));
-            let offset = (at - l.bank_start()) as u32;
-            let bank = [record.as_slice(), &[0, 0]].concat();
-            let mut new = [
-                &file[..table],
-                &offset.to_le_bytes(),
-                &file[table..at],
-                &bank,
-                &file[at..],
-            ]
-            .concat();
+            not_full(l.banks)?;
+            let offset = ((at - l.bank_start()) as u32).to_le_bytes();
+            let bank = [edit.record.as_slice(), &[0, 0]].concat();
+            let (before, after) = (&file[table..at], &file[at..]);
+            let mut new = [&file[..table], &offset, before, &bank, after].concat();
             add_at(&mut new, 86, 1);
             offsets(&mut new[table + 4..][..4 * (l.banks - first)], 34);
-            new
+            Ok(new)
         }
         8 => {
-            let (at, end, table) = (
-                l.bank_at(file, first),
-                l.bank_at(file, first + 1),
-                l.offset_at(first),
-            );
+            let end = l.bank_at(file, first + 1);
             let mut new = [&file[..table], &file[table + 4..at], &file[end..]].concat();
             add_at(&mut new, 86, -1);
-            offsets(
-                &mut new[table..][..4 * (l.banks - first - 1)],
-                -((end - at) as i32),
-            );
-            new
+            let later = &mut new[table..][..4 * (l.banks - first - 1)];
+            offsets(later, -((end - at) as i32));
+            Ok(new)
         }
-        9 => spliced(file, l.bank_at(file, first), 32, record),
-        _ => spliced(file, 10, 72, record),
-    })
+        _ => Ok(spliced(file, at, 32, &edit.record)),
+    }
 }
 
 /// Edits 10 and 11.

@@ -3,7 +3,7 @@
 use obcf_second::history::{put_number, take_number};
 use obcf_second::{Reason, Refusal};
 
-/// The first entry of a history, and what stands behind it.
+/// The first entry of a history, and what comes after it.
 pub struct First<'a> {
     pub start: usize,
     pub new_length: usize,

@@ -1,4 +1,4 @@
-//! Where the parts of a judged file stand.
+//! Where the parts of a valid file stand.
 
 use obcf_second::Counts;
 
@@ -29,7 +29,7 @@ impl Layout {
         self.channel_at(self.channels) + 4 * n
     }
 
-    /// The first byte behind the offset table.
+    /// The first byte after the offset table.
     pub fn bank_start(&self) -> usize {
         self.offset_at(self.banks)
     }

@@ -1,7 +1,7 @@
-//! The records of a judged file: one after the other with texts that are lent, or all as lists with texts of their own.
+//! The records of a valid file: one after the other with texts that are lent, or all as lists with texts of their own.
 
-use super::judge::judge;
 use super::layout::Layout;
+use super::validate::validate;
 use obcf_second::record::Mode;
 use obcf_second::Refusal;
 use std::hint::black_box;
@@ -12,7 +12,7 @@ pub struct Contact<T> {
     pub mode: Mode,
     /// The id, or the address.
     pub number: u64,
-    pub kind: u8,
+    pub contact_type: u8,
     pub rx_tone: bool,
 }
 
@@ -29,7 +29,7 @@ pub struct Channel<T> {
     pub floors: [i8; 2],
     pub ten_thousandths: [u16; 2],
     pub altitude: u16,
-    /// The bytes of the info by halves or bits, as the mode has them.
+    /// The bytes of the info by nibbles or bits, as the mode has them.
     pub info: [u8; 5],
     pub contact: Option<u16>,
 }
@@ -101,7 +101,7 @@ fn contact<'a, T: Text<'a>>(c: &'a [u8; 39]) -> Contact<T> {
         name: T::of(&c[..32]),
         mode: mode(c[32]),
         number: if m17 { address } else { u32_at(c, 33).into() },
-        kind: if m17 { 0 } else { c[37] >> 6 },
+        contact_type: if m17 { 0 } else { c[37] >> 6 },
         rx_tone: !m17 && c[37] & 0x20 != 0,
     }
 }
@@ -153,9 +153,9 @@ fn banks<'a>(file: &'a [u8], l: &Layout) -> impl Iterator<Item = (&'a [u8], &'a 
     })
 }
 
-/// Judges a file and reads each record once.
+/// Validates a file and reads each record once.
 pub fn read_all(file: &[u8]) -> Result<(), Refusal> {
-    let l = Layout::of(judge(file)?);
+    let l = Layout::of(validate(file)?);
     for c in contacts(file, &l) {
         black_box(&contact::<&[u8]>(c));
     }
@@ -171,9 +171,9 @@ pub fn read_all(file: &[u8]) -> Result<(), Refusal> {
     Ok(())
 }
 
-/// Judges a file and reads it into lists.
+/// Validates a file and reads it into lists.
 pub fn lists(file: &[u8]) -> Result<Lists, Refusal> {
-    let l = Layout::of(judge(file)?);
+    let l = Layout::of(validate(file)?);
     Ok(Lists {
         contacts: contacts(file, &l).iter().map(contact).collect(),
         channels: channels(file, &l).iter().map(channel).collect(),

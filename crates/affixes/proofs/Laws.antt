@@ -16,7 +16,7 @@ use borrow.Author.Tests.{eqb-true, eqb-false, eq-eqb, ne-eqb}
 use Rattle.fields.specs.Bytes.{part}
 use Rattle.fields.proofs.Laws.{length-part}
 use Rattle.fields.proofs.Laws.{part-suc, part-cons}
-use Rattle.affixes.specs.Common.{commonStart, commonEnd}
+use Rattle.affixes.specs.Common.{commonPrefix, commonSuffix}
 
 -- ---- the comparison of a chunk
 
@@ -30,7 +30,7 @@ or-none x y h =
 pub xor-none : (x y : ℕ) → bitXor x y ≡ 0 → x ≡ y
 xor-none x y h = omega (arith, xor-add-and x y, and-le-l x y, and-le-r x y)
 
--- a turn of the comparison without an exit: x gathers the bits that differ
+-- an iteration of the comparison without an exit: x gathers the bits that differ
 pub same-more : (a b : List ℕ) (i j k x : ℕ) → (x ≡ 0 → part a i k ≡ part b j k) → i + k < length a → j + k < length b
     → bitOr x (bitXor (getD a (i + k) 0) (getD b (j + k) 0)) ≡ 0 → part a i (k + 1) ≡ part b j (k + 1)
 same-more a b i j k x f g h e =
@@ -43,28 +43,28 @@ same-all a b i j n k x f g e = rw (← g) (f (eqb-true x 0 e))
 
 -- ---- the common beginning
 
-pub commonStart-nil : (a : List ℕ) → commonStart a [] ≡ 0
-unfolding commonStart
-commonStart-nil [] = refl
-commonStart-nil (x ∷ a) = refl
+pub commonPrefix-nil : (a : List ℕ) → commonPrefix a [] ≡ 0
+unfolding commonPrefix
+commonPrefix-nil [] = refl
+commonPrefix-nil (x ∷ a) = refl
 
 -- the clauses, as equations
-pub commonStart-same : (x y : ℕ) (a b : List ℕ) → x ≡ y → commonStart (x ∷ a) (y ∷ b) ≡ suc (commonStart a b)
-unfolding commonStart
-commonStart-same x y a b e = rw (eq-eqb x y e) (one-add (commonStart a b))
+pub commonPrefix-same : (x y : ℕ) (a b : List ℕ) → x ≡ y → commonPrefix (x ∷ a) (y ∷ b) ≡ suc (commonPrefix a b)
+unfolding commonPrefix
+commonPrefix-same x y a b e = rw (eq-eqb x y e) (one-add (commonPrefix a b))
 
-pub commonStart-differ : (x y : ℕ) (a b : List ℕ) → (x ≡ y → ⊥) → commonStart (x ∷ a) (y ∷ b) ≡ 0
-unfolding commonStart
-commonStart-differ x y a b e = rw (ne-eqb x y e)
+pub commonPrefix-differ : (x y : ℕ) (a b : List ℕ) → (x ≡ y → ⊥) → commonPrefix (x ∷ a) (y ∷ b) ≡ 0
+unfolding commonPrefix
+commonPrefix-differ x y a b e = rw (ne-eqb x y e)
 
-pub commonStart-append : (c a b : List ℕ) → commonStart (c ++ a) (c ++ b) ≡ length c + commonStart a b
-commonStart-append [] a b = sym (zero-add (commonStart a b))
-commonStart-append (x ∷ c) a b = commonStart-same x x (c ++ a) (c ++ b) refl ∙ rw (commonStart-append c a b, suc-add)
+pub commonPrefix-append : (c a b : List ℕ) → commonPrefix (c ++ a) (c ++ b) ≡ length c + commonPrefix a b
+commonPrefix-append [] a b = sym (zero-add (commonPrefix a b))
+commonPrefix-append (x ∷ c) a b = commonPrefix-same x x (c ++ a) (c ++ b) refl ∙ rw (commonPrefix-append c a b, suc-add)
 
-pub commonStart-self : (a : List ℕ) → commonStart a a ≡ length a
-unfolding commonStart
-commonStart-self [] = refl
-commonStart-self (x ∷ a) = commonStart-same x x a a refl ∙ ap suc (commonStart-self a)
+pub commonPrefix-self : (a : List ℕ) → commonPrefix a a ≡ length a
+unfolding commonPrefix
+commonPrefix-self [] = refl
+commonPrefix-self (x ∷ a) = commonPrefix-same x x a a refl ∙ ap suc (commonPrefix-self a)
 
 -- n is the length of the longest common beginning
 pub record Begins (a b : List ℕ) (n : ℕ) : Type 0 where
@@ -85,72 +85,72 @@ begins-more x a b n h =
       stops = λ f g e. h .stops (omega arith) (omega arith) e;
     }
 
-begins-test : (x y : ℕ) (a b : List ℕ) (t : Bool) → eqb x y ≡ t → Begins a b (commonStart a b)
-    → Begins (x ∷ a) (y ∷ b) (commonStart (x ∷ a) (y ∷ b))
+begins-test : (x y : ℕ) (a b : List ℕ) (t : Bool) → eqb x y ≡ t → Begins a b (commonPrefix a b)
+    → Begins (x ∷ a) (y ∷ b) (commonPrefix (x ∷ a) (y ∷ b))
 begins-test x y a b true e h =
     let f : x ≡ y = eqb-true x y e in
-    rw (commonStart-same x y a b f, ← f) (begins-more x a b (commonStart a b) h)
+    rw (commonPrefix-same x y a b f, ← f) (begins-more x a b (commonPrefix a b) h)
 begins-test x y a b false e h =
     let f = eqb-false x y e in
-    rw (commonStart-differ x y a b f) (begins-none (x ∷ a) (y ∷ b) (λ _ _ g. f g))
+    rw (commonPrefix-differ x y a b f) (begins-none (x ∷ a) (y ∷ b) (λ _ _ g. f g))
 
-pub commonStart-begins : (a b : List ℕ) → Begins a b (commonStart a b)
-unfolding commonStart
-commonStart-begins [] b = begins-none [] b (λ f _ _. omega arith)
-commonStart-begins (x ∷ a) [] = begins-none (x ∷ a) [] (λ _ f _. omega arith)
-commonStart-begins (x ∷ a) (y ∷ b) = begins-test x y a b (eqb x y) refl (commonStart-begins a b)
+pub commonPrefix-begins : (a b : List ℕ) → Begins a b (commonPrefix a b)
+unfolding commonPrefix
+commonPrefix-begins [] b = begins-none [] b (λ f _ _. omega arith)
+commonPrefix-begins (x ∷ a) [] = begins-none (x ∷ a) [] (λ _ f _. omega arith)
+commonPrefix-begins (x ∷ a) (y ∷ b) = begins-test x y a b (eqb x y) refl (commonPrefix-begins a b)
 
-pub commonStart-left : (a b : List ℕ) → commonStart a b ≤ length a
-commonStart-left a b = commonStart-begins a b .left
+pub commonPrefix-left : (a b : List ℕ) → commonPrefix a b ≤ length a
+commonPrefix-left a b = commonPrefix-begins a b .left
 
-pub commonStart-right : (a b : List ℕ) → commonStart a b ≤ length b
-commonStart-right a b = commonStart-begins a b .right
+pub commonPrefix-right : (a b : List ℕ) → commonPrefix a b ≤ length b
+commonPrefix-right a b = commonPrefix-begins a b .right
 
-pub take-commonStart : (a b : List ℕ) → take (commonStart a b) a ≡ take (commonStart a b) b
-take-commonStart a b = commonStart-begins a b .same
+pub take-commonPrefix : (a b : List ℕ) → take (commonPrefix a b) a ≡ take (commonPrefix a b) b
+take-commonPrefix a b = commonPrefix-begins a b .same
 
-pub commonStart-stops : (a b : List ℕ) → commonStart a b < length a → commonStart a b < length b
-    → getD a (commonStart a b) 0 ≡ getD b (commonStart a b) 0 → ⊥
-commonStart-stops a b = commonStart-begins a b .stops
+pub commonPrefix-stops : (a b : List ℕ) → commonPrefix a b < length a → commonPrefix a b < length b
+    → getD a (commonPrefix a b) 0 ≡ getD b (commonPrefix a b) 0 → ⊥
+commonPrefix-stops a b = commonPrefix-begins a b .stops
 
 -- the scan: nothing read yet, m more bytes agree
-pub start-none : (a b : List ℕ) → commonStart a b ≡ 0 + commonStart (drop 0 a) (drop 0 b)
-start-none a b = sym (zero-add (commonStart a b))
+pub start-none : (a b : List ℕ) → commonPrefix a b ≡ 0 + commonPrefix (drop 0 a) (drop 0 b)
+start-none a b = sym (zero-add (commonPrefix a b))
 
-pub start-more : (a b : List ℕ) (i m : ℕ) → commonStart a b ≡ i + commonStart (drop i a) (drop i b) → part a i m ≡ part b i m
-    → i + m ≤ length a → commonStart a b ≡ i + m + commonStart (drop (i + m) a) (drop (i + m) b)
+pub start-more : (a b : List ℕ) (i m : ℕ) → commonPrefix a b ≡ i + commonPrefix (drop i a) (drop i b) → part a i m ≡ part b i m
+    → i + m ≤ length a → commonPrefix a b ≡ i + m + commonPrefix (drop (i + m) a) (drop (i + m) b)
 start-more a b i m e f h =
     let l : length (part a i m) ≡ m = length-part a i m h in
     let p : drop i a ≡ part a i m ++ drop (i + m) a = sym (take-append-drop m (drop i a)) ∙ rw drop-drop in
     let q : drop i b ≡ part a i m ++ drop (i + m) b = sym (take-append-drop m (drop i b)) ∙ rw (drop-drop, f) in
-    let g = commonStart-append (part a i m) (drop (i + m) a) (drop (i + m) b) in
-    let r : commonStart (drop i a) (drop i b) ≡ m + commonStart (drop (i + m) a) (drop (i + m) b) = rw (p, q, g, l) in
+    let g = commonPrefix-append (part a i m) (drop (i + m) a) (drop (i + m) b) in
+    let r : commonPrefix (drop i a) (drop i b) ≡ m + commonPrefix (drop (i + m) a) (drop (i + m) b) = rw (p, q, g, l) in
     omega arith
 
 -- one more
 same-one : (a b : List ℕ) (i j : ℕ) → i < length a → j < length b → getD a i 0 ≡ getD b j 0 → part a i 1 ≡ part b j 1
 same-one a b i j f g h = part-cons a i 0 f ∙ ap (λ (x : ℕ). x ∷ []) h ∙ sym (part-cons b j 0 g)
 
-pub start-byte : (a b : List ℕ) (i : ℕ) → commonStart a b ≡ i + commonStart (drop i a) (drop i b) → i < length a → i < length b
-    → getD a i 0 ≡ getD b i 0 → commonStart a b ≡ i + 1 + commonStart (drop (i + 1) a) (drop (i + 1) b)
+pub start-byte : (a b : List ℕ) (i : ℕ) → commonPrefix a b ≡ i + commonPrefix (drop i a) (drop i b) → i < length a → i < length b
+    → getD a i 0 ≡ getD b i 0 → commonPrefix a b ≡ i + 1 + commonPrefix (drop (i + 1) a) (drop (i + 1) b)
 start-byte a b i e f g h = start-more a b i 1 e (same-one a b i i f g h) (omega arith)
 
 -- one of the two has ended
-pub start-end : (a b : List ℕ) (i : ℕ) → commonStart a b ≡ i + commonStart (drop i a) (drop i b) → i ≤ length a → i ≤ length b
-    → (length a ≤ i) ⊎ (length b ≤ i) → i ≡ commonStart a b
+pub start-end : (a b : List ℕ) (i : ℕ) → commonPrefix a b ≡ i + commonPrefix (drop i a) (drop i b) → i ≤ length a → i ≤ length b
+    → (length a ≤ i) ⊎ (length b ≤ i) → i ≡ commonPrefix a b
 start-end a b i e f g h =
-    let l = commonStart-left (drop i a) (drop i b) in
-    let r = commonStart-right (drop i a) (drop i b) in
+    let l = commonPrefix-left (drop i a) (drop i b) in
+    let r = commonPrefix-right (drop i a) (drop i b) in
     let m = length-drop i a in
     let n = length-drop i b in
     ⊎-elim (λ w. omega arith) (λ w. omega arith) h
 
 -- two bytes differ
-pub start-stop : (a b : List ℕ) (i : ℕ) → commonStart a b ≡ i + commonStart (drop i a) (drop i b) → i < length a → i < length b
-    → (getD a i 0 ≡ getD b i 0 → ⊥) → i ≡ commonStart a b
+pub start-stop : (a b : List ℕ) (i : ℕ) → commonPrefix a b ≡ i + commonPrefix (drop i a) (drop i b) → i < length a → i < length b
+    → (getD a i 0 ≡ getD b i 0 → ⊥) → i ≡ commonPrefix a b
 start-stop a b i e f g h =
-    let p = commonStart-differ (getD a i 0) (getD b i 0) (drop (suc i) a) (drop (suc i) b) h in
-    let r : commonStart (drop i a) (drop i b) ≡ 0 = rw (drop-cons a i 0 f, drop-cons b i 0 g) p in
+    let p = commonPrefix-differ (getD a i 0) (getD b i 0) (drop (suc i) a) (drop (suc i) b) h in
+    let r : commonPrefix (drop i a) (drop i b) ≡ 0 = rw (drop-cons a i 0 f, drop-cons b i 0 g) p in
     omega arith
 
 -- ---- the common ending
@@ -198,39 +198,39 @@ begins-ends a b n h =
           h .stops (rw length-reverse f) (rw length-reverse g) (getD-reverse a n f ∙ d ∙ sym (getD-reverse b n g));
     }
 
-pub commonEnd-ends : (a b : List ℕ) → Ends a b (commonEnd a b)
-unfolding commonEnd
-commonEnd-ends a b = begins-ends a b (commonEnd a b) (commonStart-begins (reverse a) (reverse b))
+pub commonSuffix-ends : (a b : List ℕ) → Ends a b (commonSuffix a b)
+unfolding commonSuffix
+commonSuffix-ends a b = begins-ends a b (commonSuffix a b) (commonPrefix-begins (reverse a) (reverse b))
 
-pub commonEnd-left : (a b : List ℕ) → commonEnd a b ≤ length a
-commonEnd-left a b = commonEnd-ends a b .left
+pub commonSuffix-left : (a b : List ℕ) → commonSuffix a b ≤ length a
+commonSuffix-left a b = commonSuffix-ends a b .left
 
-pub commonEnd-right : (a b : List ℕ) → commonEnd a b ≤ length b
-commonEnd-right a b = commonEnd-ends a b .right
+pub commonSuffix-right : (a b : List ℕ) → commonSuffix a b ≤ length b
+commonSuffix-right a b = commonSuffix-ends a b .right
 
-pub drop-commonEnd : (a b : List ℕ) → drop (length a - commonEnd a b) a ≡ drop (length b - commonEnd a b) b
-drop-commonEnd a b = commonEnd-ends a b .same
+pub drop-commonSuffix : (a b : List ℕ) → drop (length a - commonSuffix a b) a ≡ drop (length b - commonSuffix a b) b
+drop-commonSuffix a b = commonSuffix-ends a b .same
 
-pub commonEnd-stops : (a b : List ℕ) → commonEnd a b < length a → commonEnd a b < length b
-    → getD a (length a - 1 - commonEnd a b) 0 ≡ getD b (length b - 1 - commonEnd a b) 0 → ⊥
-commonEnd-stops a b = commonEnd-ends a b .stops
+pub commonSuffix-stops : (a b : List ℕ) → commonSuffix a b < length a → commonSuffix a b < length b
+    → getD a (length a - 1 - commonSuffix a b) 0 ≡ getD b (length b - 1 - commonSuffix a b) 0 → ⊥
+commonSuffix-stops a b = commonSuffix-ends a b .stops
 
-pub commonEnd-append : (a b c : List ℕ) → commonEnd (a ++ c) (b ++ c) ≡ length c + commonEnd a b
-unfolding commonEnd
-commonEnd-append a b c =
-    rw (reverse-append a c, reverse-append b c, commonStart-append (reverse c) (reverse a) (reverse b), length-reverse c)
+pub commonSuffix-append : (a b c : List ℕ) → commonSuffix (a ++ c) (b ++ c) ≡ length c + commonSuffix a b
+unfolding commonSuffix
+commonSuffix-append a b c =
+    rw (reverse-append a c, reverse-append b c, commonPrefix-append (reverse c) (reverse a) (reverse b), length-reverse c)
 
-pub commonEnd-self : (a : List ℕ) → commonEnd a a ≡ length a
-unfolding commonEnd
-commonEnd-self a = commonStart-self (reverse a) ∙ length-reverse a
+pub commonSuffix-self : (a : List ℕ) → commonSuffix a a ≡ length a
+unfolding commonSuffix
+commonSuffix-self a = commonPrefix-self (reverse a) ∙ length-reverse a
 
 -- the scan: nothing read yet, m more bytes agree
-pub end-none : (a b : List ℕ) → commonEnd a b ≡ 0 + commonEnd (take (length a - 0) a) (take (length b - 0) b)
-end-none a b = rw (sub-zero (length a), sub-zero (length b), take-length a, take-length b) (sym (zero-add (commonEnd a b)))
+pub end-none : (a b : List ℕ) → commonSuffix a b ≡ 0 + commonSuffix (take (length a - 0) a) (take (length b - 0) b)
+end-none a b = rw (sub-zero (length a), sub-zero (length b), take-length a, take-length b) (sym (zero-add (commonSuffix a b)))
 
-pub end-more : (a b : List ℕ) (i m : ℕ) → commonEnd a b ≡ i + commonEnd (take (length a - i) a) (take (length b - i) b)
+pub end-more : (a b : List ℕ) (i m : ℕ) → commonSuffix a b ≡ i + commonSuffix (take (length a - i) a) (take (length b - i) b)
     → part a (length a - i - m) m ≡ part b (length b - i - m) m → i + m ≤ length a → i + m ≤ length b
-    → commonEnd a b ≡ i + m + commonEnd (take (length a - (i + m)) a) (take (length b - (i + m)) b)
+    → commonSuffix a b ≡ i + m + commonSuffix (take (length a - (i + m)) a) (take (length b - (i + m)) b)
 end-more a b i m e f g h =
     let x = length a - (i + m) in
     let y = length b - (i + m) in
@@ -242,17 +242,17 @@ end-more a b i m e f g h =
     let v : length b - i ≡ y + m = omega arith in
     let p : take (length a - i) a ≡ take x a ++ part b y m = rw (u, take-add x m a, s) in
     let q : take (length b - i) b ≡ take y b ++ part b y m = rw (v, take-add y m b) in
-    let r : commonEnd (take (length a - i) a) (take (length b - i) b) ≡ m + commonEnd (take x a) (take y b) =
-    rw (p, q, commonEnd-append (take x a) (take y b) (part b y m), l)
+    let r : commonSuffix (take (length a - i) a) (take (length b - i) b) ≡ m + commonSuffix (take x a) (take y b) =
+    rw (p, q, commonSuffix-append (take x a) (take y b) (part b y m), l)
     in
     omega arith
 
 last-inside : (n i : ℕ) → i < n → n - i - 1 < n
 last-inside n i h = omega arith
 
-pub end-byte : (a b : List ℕ) (i : ℕ) → commonEnd a b ≡ i + commonEnd (take (length a - i) a) (take (length b - i) b)
+pub end-byte : (a b : List ℕ) (i : ℕ) → commonSuffix a b ≡ i + commonSuffix (take (length a - i) a) (take (length b - i) b)
     → i < length a → i < length b → getD a (length a - 1 - i) 0 ≡ getD b (length b - 1 - i) 0
-    → commonEnd a b ≡ i + 1 + commonEnd (take (length a - (i + 1)) a) (take (length b - (i + 1)) b)
+    → commonSuffix a b ≡ i + 1 + commonSuffix (take (length a - (i + 1)) a) (take (length b - (i + 1)) b)
 end-byte a b i e f g h =
     let x = length a - i - 1 in
     let y = length b - i - 1 in
@@ -260,23 +260,23 @@ end-byte a b i e f g h =
     end-more a b i 1 e (same-one a b x y (last-inside (length a) i f) (last-inside (length b) i g) s) (omega arith) (omega arith)
 
 -- one of the two has ended
-pub end-end : (a b : List ℕ) (i : ℕ) → commonEnd a b ≡ i + commonEnd (take (length a - i) a) (take (length b - i) b)
-    → i ≤ length a → i ≤ length b → (length a ≤ i) ⊎ (length b ≤ i) → i ≡ commonEnd a b
+pub end-end : (a b : List ℕ) (i : ℕ) → commonSuffix a b ≡ i + commonSuffix (take (length a - i) a) (take (length b - i) b)
+    → i ≤ length a → i ≤ length b → (length a ≤ i) ⊎ (length b ≤ i) → i ≡ commonSuffix a b
 end-end a b i e f g h =
-    let l = commonEnd-left (take (length a - i) a) (take (length b - i) b) in
-    let r = commonEnd-right (take (length a - i) a) (take (length b - i) b) in
+    let l = commonSuffix-left (take (length a - i) a) (take (length b - i) b) in
+    let r = commonSuffix-right (take (length a - i) a) (take (length b - i) b) in
     let m : length (take (length a - i) a) ≡ length a - i = length-take-le (length a - i) a (omega arith) in
     let n : length (take (length b - i) b) ≡ length b - i = length-take-le (length b - i) b (omega arith) in
     ⊎-elim (λ w. omega arith) (λ w. omega arith) h
 
 -- the ending of two lists whose last bytes differ
-commonEnd-differ : (a b : List ℕ) (x y : ℕ) → (x ≡ y → ⊥) → commonEnd (a ++ (x ∷ [])) (b ++ (y ∷ [])) ≡ 0
-unfolding commonEnd
-commonEnd-differ a b x y h =
-    rw (reverse-around a x [], reverse-around b y []) (commonStart-differ x y (reverse a) (reverse b) h)
+commonSuffix-differ : (a b : List ℕ) (x y : ℕ) → (x ≡ y → ⊥) → commonSuffix (a ++ (x ∷ [])) (b ++ (y ∷ [])) ≡ 0
+unfolding commonSuffix
+commonSuffix-differ a b x y h =
+    rw (reverse-around a x [], reverse-around b y []) (commonPrefix-differ x y (reverse a) (reverse b) h)
 
-pub end-stop : (a b : List ℕ) (i : ℕ) → commonEnd a b ≡ i + commonEnd (take (length a - i) a) (take (length b - i) b)
-    → i < length a → i < length b → (getD a (length a - 1 - i) 0 ≡ getD b (length b - 1 - i) 0 → ⊥) → i ≡ commonEnd a b
+pub end-stop : (a b : List ℕ) (i : ℕ) → commonSuffix a b ≡ i + commonSuffix (take (length a - i) a) (take (length b - i) b)
+    → i < length a → i < length b → (getD a (length a - 1 - i) 0 ≡ getD b (length b - 1 - i) 0 → ⊥) → i ≡ commonSuffix a b
 end-stop a b i e f g h =
     let x = length a - 1 - i in
     let y = length b - 1 - i in
@@ -284,8 +284,8 @@ end-stop a b i e f g h =
     let v : length b - i ≡ suc y = omega arith in
     let p : x < length a = omega arith in
     let q : y < length b = omega arith in
-    let r : commonEnd (take (length a - i) a) (take (length b - i) b) ≡ 0 =
-    rw (u, v, take-suc a x 0 p, take-suc b y 0 q) (commonEnd-differ (take x a) (take y b) (getD a x 0) (getD b y 0) h)
+    let r : commonSuffix (take (length a - i) a) (take (length b - i) b) ≡ 0 =
+    rw (u, v, take-suc a x 0 p, take-suc b y 0 q) (commonSuffix-differ (take x a) (take y b) (getD a x 0) (getD b y 0) h)
     in
     omega arith
 

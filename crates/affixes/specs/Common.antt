@@ -5,11 +5,11 @@ use mathlib.Core.List.{List, [], _∷_, reverse}
 use lib.Dec.{eqb}
 
 -- the length of the longest common beginning
-unfoldable pub commonStart : List ℕ → List ℕ → ℕ
-commonStart [] b = 0
-commonStart (x ∷ a) [] = 0
-commonStart (x ∷ a) (y ∷ b) = cond (eqb x y) (1 + commonStart a b) 0
+unfoldable pub commonPrefix : List ℕ → List ℕ → ℕ
+commonPrefix [] b = 0
+commonPrefix (x ∷ a) [] = 0
+commonPrefix (x ∷ a) (y ∷ b) = cond (eqb x y) (1 + commonPrefix a b) 0
 
 -- the length of the longest common ending
-unfoldable pub commonEnd : List ℕ → List ℕ → ℕ
-commonEnd a b = commonStart (reverse a) (reverse b)
+unfoldable pub commonSuffix : List ℕ → List ℕ → ℕ
+commonSuffix a b = commonPrefix (reverse a) (reverse b)

@@ -3,13 +3,13 @@ use Prim.Native.Nat.{ℕ, _+_, _-_, _≤_}
 use mathlib.Core.Path.{_≡_}
 use mathlib.Core.List.{List}
 use lib.ListN.{length, take, drop}
-use Rattle.affixes.specs.Common.{commonStart, commonEnd}
+use Rattle.affixes.specs.Common.{commonPrefix, commonSuffix}
 
 -- the first n bytes agree: what is common are these and what the rests have in common
-abbrev pub StartTo : List ℕ → List ℕ → ℕ → Type 0
-StartTo a b n = ((n ≤ length a) × (n ≤ length b)) × (commonStart a b ≡ n + commonStart (drop n a) (drop n b))
+abbrev pub PrefixTo : List ℕ → List ℕ → ℕ → Type 0
+PrefixTo a b n = ((n ≤ length a) × (n ≤ length b)) × (commonPrefix a b ≡ n + commonPrefix (drop n a) (drop n b))
 
 -- the last n bytes agree
-abbrev pub EndTo : List ℕ → List ℕ → ℕ → Type 0
-EndTo a b n =
-    ((n ≤ length a) × (n ≤ length b)) × (commonEnd a b ≡ n + commonEnd (take (length a - n) a) (take (length b - n) b))
+abbrev pub SuffixTo : List ℕ → List ℕ → ℕ → Type 0
+SuffixTo a b n =
+    ((n ≤ length a) × (n ≤ length b)) × (commonSuffix a b ≡ n + commonSuffix (take (length a - n) a) (take (length b - n) b))

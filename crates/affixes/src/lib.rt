@@ -6,8 +6,8 @@ ghost use mathlib.Core.Bool.{true};
 ghost use Prim.Native.Nat.{_+_, _≤_};
 ghost use lib.ListN.{length};
 ghost use Rattle.fields.specs.Bytes.{part};
-ghost use Rattle.affixes.specs.Common.{commonStart, commonEnd};
-ghost use Rattle.affixes.specs.Scan.{StartTo, EndTo};
+ghost use Rattle.affixes.specs.Common.{commonPrefix, commonSuffix};
+ghost use Rattle.affixes.specs.Scan.{PrefixTo, SuffixTo};
 
 // Whether 32 bytes of each agree. No early exit, so that it vectorises.
 fn same32(a: &[u8], i: usize, b: &[u8], j: usize) -> bool
@@ -24,8 +24,8 @@ fn same32(a: &[u8], i: usize, b: &[u8], j: usize) -> bool
 }
 
 // How many bytes at the front of both agree, in whole chunks.
-fn start_chunks(a: &[u8], b: &[u8]) -> usize
-    ensures { λ r. ⌜ StartTo (now (a .entry)) (now (b .entry)) r ⌝ }
+fn prefix_chunks(a: &[u8], b: &[u8]) -> usize
+    ensures { λ r. ⌜ PrefixTo (now (a .entry)) (now (b .entry)) r ⌝ }
 {
     let mut i = 0;
     while 32 <= a.len() - i {
@@ -40,10 +40,10 @@ fn start_chunks(a: &[u8], b: &[u8]) -> usize
     i
 }
 
-pub fn common_start(a: &[u8], b: &[u8]) -> usize
-    ensures { λ r. ⌜ r ≡ commonStart (now (a .entry)) (now (b .entry)) ⌝ }
+pub fn common_prefix(a: &[u8], b: &[u8]) -> usize
+    ensures { λ r. ⌜ r ≡ commonPrefix (now (a .entry)) (now (b .entry)) ⌝ }
 {
-    let mut i = start_chunks(a, b);
+    let mut i = prefix_chunks(a, b);
     while i < a.len() {
         if b.len() <= i {
             return i;
@@ -57,8 +57,8 @@ pub fn common_start(a: &[u8], b: &[u8]) -> usize
 }
 
 // How many bytes at the end of both agree, in whole chunks.
-fn end_chunks(a: &[u8], b: &[u8]) -> usize
-    ensures { λ r. ⌜ EndTo (now (a .entry)) (now (b .entry)) r ⌝ }
+fn suffix_chunks(a: &[u8], b: &[u8]) -> usize
+    ensures { λ r. ⌜ SuffixTo (now (a .entry)) (now (b .entry)) r ⌝ }
 {
     let mut i = 0;
     while 32 <= a.len() - i {
@@ -73,10 +73,10 @@ fn end_chunks(a: &[u8], b: &[u8]) -> usize
     i
 }
 
-pub fn common_end(a: &[u8], b: &[u8]) -> usize
-    ensures { λ r. ⌜ r ≡ commonEnd (now (a .entry)) (now (b .entry)) ⌝ }
+pub fn common_suffix(a: &[u8], b: &[u8]) -> usize
+    ensures { λ r. ⌜ r ≡ commonSuffix (now (a .entry)) (now (b .entry)) ⌝ }
 {
-    let mut i = end_chunks(a, b);
+    let mut i = suffix_chunks(a, b);
     while i < a.len() {
         if b.len() <= i {
             return i;

@@ -1,35 +1,35 @@
 // The common ending of a byte slice and a list that is given in pieces.
-use crate::common_end;
+use crate::common_suffix;
 ghost use mathlib.Core.Path.{_≡_};
 ghost use mathlib.Core.List.{_++_};
-ghost use Rattle.affixes.specs.Common.{commonEnd};
+ghost use Rattle.affixes.specs.Common.{commonSuffix};
 
-pub fn common_end2(s: &[u8], a: &[u8], b: &[u8]) -> usize
-    ensures { λ r. ⌜ r ≡ commonEnd (now (s .entry)) (now (a .entry) ++ now (b .entry)) ⌝ }
+fn common_suffix2(s: &[u8], a: &[u8], b: &[u8]) -> usize
+    ensures { λ r. ⌜ r ≡ commonSuffix (now (s .entry)) (now (a .entry) ++ now (b .entry)) ⌝ }
 {
-    let e = common_end(s, b);
+    let e = common_suffix(s, b);
     if e < b.len() {
         return e;
     }
-    e + common_end(&s[..s.len() - e], a)
+    e + common_suffix(&s[..s.len() - e], a)
 }
 
-pub fn common_end3(s: &[u8], a: &[u8], b: &[u8], c: &[u8]) -> usize
-    ensures { λ r. ⌜ r ≡ commonEnd (now (s .entry)) (now (a .entry) ++ (now (b .entry) ++ now (c .entry))) ⌝ }
+pub fn common_suffix3(s: &[u8], a: &[u8], b: &[u8], c: &[u8]) -> usize
+    ensures { λ r. ⌜ r ≡ commonSuffix (now (s .entry)) (now (a .entry) ++ (now (b .entry) ++ now (c .entry))) ⌝ }
 {
-    let e = common_end(s, c);
+    let e = common_suffix(s, c);
     if e < c.len() {
         return e;
     }
-    e + common_end2(&s[..s.len() - e], a, b)
+    e + common_suffix2(&s[..s.len() - e], a, b)
 }
 
-pub fn common_end4(s: &[u8], a: &[u8], b: &[u8], c: &[u8], d: &[u8]) -> usize
-    ensures { λ r. ⌜ r ≡ commonEnd (now (s .entry)) (now (a .entry) ++ (now (b .entry) ++ (now (c .entry) ++ now (d .entry)))) ⌝ }
+pub fn common_suffix4(s: &[u8], a: &[u8], b: &[u8], c: &[u8], d: &[u8]) -> usize
+    ensures { λ r. ⌜ r ≡ commonSuffix (now (s .entry)) (now (a .entry) ++ (now (b .entry) ++ (now (c .entry) ++ now (d .entry)))) ⌝ }
 {
-    let e = common_end(s, d);
+    let e = common_suffix(s, d);
     if e < d.len() {
         return e;
     }
-    e + common_end3(&s[..s.len() - e], a, b, c)
+    e + common_suffix3(&s[..s.len() - e], a, b, c)
 }

@@ -13,9 +13,9 @@ use mir.Syntax.{w8}
 use mir.Val.{Fits, SFits, toZ, ofZ}
 use mir.ValLaws.{toZ-ofZ}
 use borrow.Author.Tests.{ltb-true, ltb-false, leb-true, eqb-true, lt-ltb, le-ltb, le-leb, eq-eqb}
-use Rattle.bits.specs.declared.Choice.{Choice}
-use Rattle.bits.specs.declared.Halves.{Halves}
-use Rattle.bits.specs.Packed.{choiceOf, choiceByte, choiceOk, choiceGood, halvesOf, halvesByte, halvesGood, signedOf, signedByte}
+use Rattle.bits.specs.declared.NumberFlag.{NumberFlag}
+use Rattle.bits.specs.declared.Nibbles.{Nibbles}
+use Rattle.bits.specs.Packed.{numberFlagOf, numberFlagByte, numberFlagOk, numberFlagValid, nibblesOf, nibblesByte, nibblesValid, signedOf, signedByte}
 
 -- ---- tests
 
@@ -35,23 +35,23 @@ and-both a b p q = rw (p, q)
 pub packed : (a k b : ℕ) → a * 2 ^ k < 256 → b < 2 ^ k → bitOr (a * 2 ^ k % 256) b ≡ a * 2 ^ k + b
 packed a k b h l = rw (mod-eq-of-lt h) (or-shifted a k b l)
 
--- ---- choices
+-- ---- a number and a flag
 
-pub choice-low : (c : Choice) → choiceGood c ≡ true → c .number ≤ 2
-unfolding choiceGood
-choice-low c h = leb-true _ _ h
+pub number-flag-low : (c : NumberFlag) → numberFlagValid c ≡ true → c .number ≤ 2
+unfolding numberFlagValid
+number-flag-low c h = leb-true _ _ h
 
-same-choice : (m n : ℕ) (f g : Bool) → m ≡ n → f ≡ g → _≡_ {A = Choice} (record { number = m; flag = f }) (record { number = n; flag = g })
-same-choice m n f g p q = rw (p, q)
+same-number-flag : (m n : ℕ) (f g : Bool) → m ≡ n → f ≡ g → _≡_ {A = NumberFlag} (record { number = m; flag = f }) (record { number = n; flag = g })
+same-number-flag m n f g p q = rw (p, q)
 
-choice-of-parts : (n : ℕ) (f : Bool) → choiceOf (n * 64 + cond f 32 0) ≡ record { number = n; flag = f }
-unfolding choiceOf
-choice-of-parts n true =
+number-flag-of-parts : (n : ℕ) (f : Bool) → numberFlagOf (n * 64 + cond f 32 0) ≡ record { number = n; flag = f }
+unfolding numberFlagOf
+number-flag-of-parts n true =
     let z : (n * 64 + 32) / 32 % 2 ≡ 1 = omega arith in
-    same-choice _ n _ true (omega arith) (rw z)
-choice-of-parts n false =
+    same-number-flag _ n _ true (omega arith) (rw z)
+number-flag-of-parts n false =
     let z : (n * 64 + 0) / 32 % 2 ≡ 0 = omega arith in
-    same-choice _ n _ false (omega arith) (rw z)
+    same-number-flag _ n _ false (omega arith) (rw z)
 
 flag-step : (f : Bool) → cond f 32 0 % 32 ≡ 0
 flag-step true = refl
@@ -66,62 +66,62 @@ flag-bit zero h = refl
 flag-bit (suc zero) h = refl
 flag-bit (suc (suc x)) h = absurd (omega arith)
 
-pub choice-returns : (c : Choice) → choiceGood c ≡ true → choiceOf (choiceByte c) ≡ c
-unfolding choiceByte
-choice-returns c h = choice-of-parts (c .number) (c .flag)
+pub number-flag-returns : (c : NumberFlag) → numberFlagValid c ≡ true → numberFlagOf (numberFlagByte c) ≡ c
+unfolding numberFlagByte
+number-flag-returns c h = number-flag-of-parts (c .number) (c .flag)
 
-pub choice-ok : (c : Choice) → choiceGood c ≡ true → choiceOk (choiceByte c) ≡ true
-unfolding choiceByte choiceOk
-choice-ok c h =
+pub number-flag-ok : (c : NumberFlag) → numberFlagValid c ≡ true → numberFlagOk (numberFlagByte c) ≡ true
+unfolding numberFlagByte numberFlagOk
+number-flag-ok c h =
     let b : ℕ = c .number * 64 + cond (c .flag) 32 0 in
-    let n : b / 64 ≤ 2 = omega (arith, choice-low c h, flag-most (c .flag)) in
+    let n : b / 64 ≤ 2 = omega (arith, number-flag-low c h, flag-most (c .flag)) in
     let z : b % 32 ≡ 0 = omega (arith, flag-step (c .flag)) in
     and-both (leb (b / 64) 2) (eqb (b % 32) 0) (le-leb _ _ n) (eq-eqb _ _ z)
 
-pub choiceByte-of : (b : ℕ) → choiceOk b ≡ true → b < 256 → choiceByte (choiceOf b) ≡ b
-unfolding choiceByte choiceOf choiceOk
-choiceByte-of b h l =
+pub numberFlagByte-of : (b : ℕ) → numberFlagOk b ≡ true → b < 256 → numberFlagByte (numberFlagOf b) ≡ b
+unfolding numberFlagByte numberFlagOf numberFlagOk
+numberFlagByte-of b h l =
     let z : b % 32 ≡ 0 = eqb-true _ 0 (and-right (leb (b / 64) 2) _ h) in
     rw (flag-bit (b / 32 % 2) (omega arith)) (omega arith)
 
-pub choiceGood-of : (b : ℕ) → choiceOk b ≡ true → choiceGood (choiceOf b) ≡ true
-unfolding choiceGood choiceOf choiceOk
-choiceGood-of b h = and-left _ (eqb (b % 32) 0) h
+pub numberFlagValid-of : (b : ℕ) → numberFlagOk b ≡ true → numberFlagValid (numberFlagOf b) ≡ true
+unfolding numberFlagValid numberFlagOf numberFlagOk
+numberFlagValid-of b h = and-left _ (eqb (b % 32) 0) h
 
-pub choiceByte-lt : (c : Choice) → choiceGood c ≡ true → choiceByte c < 256
-unfolding choiceByte
-choiceByte-lt c h = omega (arith, choice-low c h, flag-most (c .flag))
+pub numberFlagByte-lt : (c : NumberFlag) → numberFlagValid c ≡ true → numberFlagByte c < 256
+unfolding numberFlagByte
+numberFlagByte-lt c h = omega (arith, number-flag-low c h, flag-most (c .flag))
 
--- ---- halves
+-- ---- nibbles
 
-pub half-high : (h : Halves) → halvesGood h ≡ true → h .high ≤ 15
-unfolding halvesGood
-half-high h g = leb-true _ 15 (and-left _ (leb (h .low) 15) g)
+pub nibble-high : (h : Nibbles) → nibblesValid h ≡ true → h .high ≤ 15
+unfolding nibblesValid
+nibble-high h g = leb-true _ 15 (and-left _ (leb (h .low) 15) g)
 
-pub half-low : (h : Halves) → halvesGood h ≡ true → h .low ≤ 15
-unfolding halvesGood
-half-low h g = leb-true _ 15 (and-right (leb (h .high) 15) _ g)
+pub nibble-low : (h : Nibbles) → nibblesValid h ≡ true → h .low ≤ 15
+unfolding nibblesValid
+nibble-low h g = leb-true _ 15 (and-right (leb (h .high) 15) _ g)
 
-same-halves : (m n k l : ℕ) → m ≡ n → k ≡ l → _≡_ {A = Halves} (record { high = m; low = k }) (record { high = n; low = l })
-same-halves m n k l p q = rw (p, q)
+same-nibbles : (m n k l : ℕ) → m ≡ n → k ≡ l → _≡_ {A = Nibbles} (record { high = m; low = k }) (record { high = n; low = l })
+same-nibbles m n k l p q = rw (p, q)
 
-pub halves-returns : (h : Halves) → halvesGood h ≡ true → halvesOf (halvesByte h) ≡ h
-unfolding halvesOf halvesByte
-halves-returns h g =
-    let l : h .low ≤ 15 = half-low h g in
-    same-halves _ (h .high) _ (h .low) (omega arith) (omega arith)
+pub nibbles-returns : (h : Nibbles) → nibblesValid h ≡ true → nibblesOf (nibblesByte h) ≡ h
+unfolding nibblesOf nibblesByte
+nibbles-returns h g =
+    let l : h .low ≤ 15 = nibble-low h g in
+    same-nibbles _ (h .high) _ (h .low) (omega arith) (omega arith)
 
-pub halvesByte-of : (b : ℕ) → b < 256 → halvesByte (halvesOf b) ≡ b
-unfolding halvesByte halvesOf
-halvesByte-of b l = omega arith
+pub nibblesByte-of : (b : ℕ) → b < 256 → nibblesByte (nibblesOf b) ≡ b
+unfolding nibblesByte nibblesOf
+nibblesByte-of b l = omega arith
 
-pub halvesGood-of : (b : ℕ) → b < 256 → halvesGood (halvesOf b) ≡ true
-unfolding halvesGood halvesOf
-halvesGood-of b l = and-both _ _ (le-leb (b / 16) 15 (omega arith)) (le-leb (b % 16) 15 (omega arith))
+pub nibblesValid-of : (b : ℕ) → b < 256 → nibblesValid (nibblesOf b) ≡ true
+unfolding nibblesValid nibblesOf
+nibblesValid-of b l = and-both _ _ (le-leb (b / 16) 15 (omega arith)) (le-leb (b % 16) 15 (omega arith))
 
-pub halvesByte-lt : (h : Halves) → halvesGood h ≡ true → halvesByte h < 256
-unfolding halvesByte
-halvesByte-lt h g = omega (arith, half-high h g, half-low h g)
+pub nibblesByte-lt : (h : Nibbles) → nibblesValid h ≡ true → nibblesByte h < 256
+unfolding nibblesByte
+nibblesByte-lt h g = omega (arith, nibble-high h g, nibble-low h g)
 
 -- ---- signed bytes
 

@@ -1,69 +1,69 @@
 // Bytes that hold more than one value, and signed bytes. Each kind has one pair of functions, out of a byte and into one.
 ghost use mathlib.Core.Path.{_≡_};
 ghost use mathlib.Core.Bool.{true};
-ghost use Rattle.bits.specs.Packed.{choiceOf, choiceByte, choiceOk, choiceGood, halvesOf, halvesByte, halvesGood, signedOf, signedByte};
+ghost use Rattle.bits.specs.Packed.{numberFlagOf, numberFlagByte, numberFlagOk, numberFlagValid, nibblesOf, nibblesByte, nibblesValid, signedOf, signedByte};
 
 // Traits and settings: a number of two bits and a flag.
-pub struct Choice {
+pub struct NumberFlag {
     pub number: u8,
     pub flag: bool,
 }
 
-// The two halves of a byte. Laid out as in C, for include/codeplug.h.
+// The two nibbles of a byte. Laid out as in C, for bindings/c/include/codeplug.h.
 #[repr(C)]
-pub struct Halves {
+pub struct Nibbles {
     pub high: u8,
     pub low: u8,
 }
 
-pub fn choice_of(b: u8) -> Choice
-    ensures { λ r. ⌜ r ≡ choiceOf b ⌝ }
+pub fn number_flag_of(b: u8) -> NumberFlag
+    ensures { λ r. ⌜ r ≡ numberFlagOf b ⌝ }
 {
-    Choice {
+    NumberFlag {
         number: b >> 6,
         flag: (b >> 5) & 1 == 1,
     }
 }
 
-pub fn choice_byte(c: Choice) -> u8
-    requires { ⌜ choiceGood c ≡ true ⌝ }
-    ensures { λ r. ⌜ r ≡ choiceByte c ⌝ }
+pub fn number_flag_byte(c: NumberFlag) -> u8
+    requires { ⌜ numberFlagValid c ≡ true ⌝ }
+    ensures { λ r. ⌜ r ≡ numberFlagByte c ⌝ }
 {
     let top = c.number << 6;
     if c.flag { top | 32 } else { top }
 }
 
-// Whether a byte holds a choice: the number at most 2, the other bits zero.
-pub fn choice_ok(b: u8) -> bool
-    ensures { λ r. ⌜ r ≡ choiceOk b ⌝ }
+// Whether a byte holds such a number and flag: the number at most 2, the other bits zero.
+pub fn number_flag_ok(b: u8) -> bool
+    ensures { λ r. ⌜ r ≡ numberFlagOk b ⌝ }
 {
     b >> 6 <= 2 && b & 31 == 0
 }
 
-pub fn choice_good(c: Choice) -> bool
-    ensures { λ r. ⌜ r ≡ choiceGood c ⌝ }
+pub fn number_flag_valid(c: NumberFlag) -> bool
+    ensures { λ r. ⌜ r ≡ numberFlagValid c ⌝ }
 {
     c.number <= 2
 }
 
-pub fn halves_of(b: u8) -> Halves
-    ensures { λ r. ⌜ r ≡ halvesOf b ⌝ }
+pub fn nibbles_of(b: u8) -> Nibbles
+    ensures { λ r. ⌜ r ≡ nibblesOf b ⌝ }
 {
-    Halves {
+    Nibbles {
         high: b >> 4,
         low: b & 15,
     }
 }
 
-pub fn halves_byte(h: Halves) -> u8
-    requires { ⌜ halvesGood h ≡ true ⌝ }
-    ensures { λ r. ⌜ r ≡ halvesByte h ⌝ }
+pub fn nibbles_byte(h: Nibbles) -> u8
+    requires { ⌜ nibblesValid h ≡ true ⌝ }
+    ensures { λ r. ⌜ r ≡ nibblesByte h ⌝ }
 {
     (h.high << 4) | h.low
 }
 
-pub fn halves_good(h: Halves) -> bool
-    ensures { λ r. ⌜ r ≡ halvesGood h ⌝ }
+pub fn nibbles_valid(h: Nibbles) -> bool
+    ensures { λ r. ⌜ r ≡ nibblesValid h ⌝ }
 {
     h.high <= 15 && h.low <= 15
 }

@@ -4,7 +4,7 @@ use editor::edit;
 use fields::numbers::byte_at;
 use fields::numbers::le64;
 use journal::answer::Answer;
-use layout::places::lend;
+use layout::places::record_bytes;
 use undo::undo;
 ghost use Prim.Native.Nat.{_≤_, _<_, _^_};
 ghost use lib.ListN.{length};
@@ -17,7 +17,7 @@ fn call(s: &[u8], room: &mut [u8], len: usize, history: &mut [u8], used: usize) 
     let kind = le64(s, 1) as usize;
     let first = le64(s, 9) as usize;
     let second = le64(s, 17) as usize;
-    let record = lend(s, 26, byte_at(s, 25) as usize);
+    let record = record_bytes(s, 26, byte_at(s, 25) as usize);
     edit(room, len, history, used, kind, first, second, record)
 }
 

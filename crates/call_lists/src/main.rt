@@ -1,4 +1,4 @@
-// Makes the lists of calls of a corpus on standard input, one line for each call, as the second program writes them (second/README.md).
+// Makes the lists of calls of a corpus on standard input, one line for each call, as the second program writes them (tests/second/README.md).
 mod calls; // calls.rt: the calls of a list
 mod print; // print.rt: the line of a call
 

@@ -2,18 +2,22 @@
 use mathlib.Core.Path.{_≡_}
 use Prim.Native.Nat.{ℕ}
 use mathlib.Core.List.{List}
-use Rattle.journal.specs.Machine.{State, Outcome, editStep}
-use Rattle.edits.specs.Setting.{editing}
-use Rattle.preconditions.specs.Calls.{asked}
-use Rattle.capi_numbers.specs.Numbers.{callAnswer}
-use Rattle.capi_numbers.specs.declared.CallAnswer.{CallAnswer}
+use Rattle.journal.specs.Machine.{State, Outcome, editStep, undoStep}
+use Rattle.edits.specs.Editing.{editing}
+use Rattle.preconditions.specs.Calls.{editRequest}
+use Rattle.capi_numbers.specs.Numbers.{editAnswer}
+use Rattle.capi_numbers.specs.declared.EditAnswer.{EditAnswer}
 
--- a call's answer and both buffers afterwards are those of an outcome
-pub record Called (o : Outcome) (r : CallAnswer) (room history : List ℕ) : Type 0 where
-  pub answered : r ≡ callAnswer (o .answer)
+-- an answer to C and both buffers afterwards are those of an outcome of a call on these buffers
+pub record Called (o : Outcome) (m : State) (r : EditAnswer) (room history : List ℕ) : Type 0 where
+  pub answered : r ≡ editAnswer (o .answer) (m .length-in-room) (m .length-in-history)
   pub room-is : room ≡ o .room
   pub history-is : history ≡ o .history
 
 -- those of an edit: its kind, its two places, its record and the buffers lent
-abbrev pub Edited : ℕ → ℕ → ℕ → List ℕ → State → CallAnswer → List ℕ → List ℕ → Type 0
-Edited kind first second bytes b r room history = Called (editStep editing (asked kind first second bytes) b) r room history
+abbrev pub Edited : ℕ → ℕ → ℕ → List ℕ → State → EditAnswer → List ℕ → List ℕ → Type 0
+Edited kind first second bytes m r room history = Called (editStep editing (editRequest kind first second bytes) m) m r room history
+
+-- those of an undo
+abbrev pub Undone : State → EditAnswer → List ℕ → List ℕ → Type 0
+Undone m r room history = Called (undoStep editing m) m r room history

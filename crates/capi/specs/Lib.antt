@@ -1,2 +1,3 @@
--- What the two calls of the C interface answer.
+-- What the two calls of the C interface answer, and its version.
 pub mod Calls
+pub mod Version

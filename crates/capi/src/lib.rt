@@ -1,5 +1,7 @@
-// The C interface: the library's calls over structures of C and byte slices (include/codeplug.h).
+// The C interface: the library's calls over structures of C and byte slices (bindings/c/include/codeplug.h).
 pub mod calls; // calls.rt: edit and undo
+pub mod history; // history.rt: how many entries a history holds
 pub mod numbers; // numbers.rt: addresses and tones
-pub mod read; // read.rt: the judge and the readers
-pub mod write; // write.rt: contacts and channels written
+pub mod read; // read.rt: validation and the readers
+pub mod version; // version.rt: the interface's version
+pub mod write; // write.rt: contacts, channels, a text field and the empty codeplug written

@@ -32,7 +32,7 @@ pub extern "C" fn codeplug_tone_frequency(index: u8) -> u16
     capi_numbers::tenths_of(tones::frequency_of(index))
 }
 
-// The index of a frequency; 255 where the table has it not.
+// The index of a frequency; 255 where no tone has it.
 #[no_mangle]
 pub extern "C" fn codeplug_tone_index(tenths: u16) -> u8
     ensures { λ r. ⌜ r ≡ indexNumber (indexOf tenths) ⌝ }

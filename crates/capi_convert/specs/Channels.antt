@@ -2,7 +2,7 @@
 use Prim.Native.Nat.{ℕ}
 use mathlib.Core.Bool.{false}
 use mathlib.Core.List.{List, [], _++_}
-use Rattle.fields.specs.declared.rule.Verdict.the-variants.{Refused}
+use Rattle.fields.specs.declared.rule.Validity.the-variants.{Refused}
 use Rattle.tones.specs.Tone.{toneIndex, toneEnabled}
 use Rattle.channel.specs.Values.{contactIndexNumber}
 use Rattle.channel_reader.specs.Reading.{channelAnswer}
@@ -11,12 +11,12 @@ use Rattle.channel.specs.declared.Info.the-variants.{Fm, Dmr, M17}
 use Rattle.channel_reader.specs.declared.ChannelRead.{ChannelRead}
 use Rattle.capi_numbers.specs.Numbers.{refusalOf}
 use Rattle.capi_convert.specs.Texts.{TextsOut}
-use Rattle.capi_numbers.specs.declared.InfoFields.{InfoFields}
+use Rattle.capi_numbers.specs.declared.ChannelInfo.{ChannelInfo}
 use Rattle.capi_convert.specs.declared.channels.ChannelAnswer.{ChannelAnswer}
 
 -- the other modes' numbers are 0, and the contact 65,535, which is nobody
-unfoldable pub infoFields : Info → InfoFields
-infoFields (Fm i) =
+unfoldable pub channelInfo : Info → ChannelInfo
+channelInfo (Fm i) =
     record {
       contact = 65535;
       mode = 0;
@@ -31,7 +31,7 @@ infoFields (Fm i) =
       encryption = 0;
       position = false;
     }
-infoFields (Dmr i) =
+channelInfo (Dmr i) =
     record {
       contact = contactIndexNumber (i .contact);
       mode = 1;
@@ -46,7 +46,7 @@ infoFields (Dmr i) =
       encryption = 0;
       position = false;
     }
-infoFields (M17 i) =
+channelInfo (M17 i) =
     record {
       contact = contactIndexNumber (i .contact);
       mode = 2;
@@ -64,8 +64,8 @@ infoFields (M17 i) =
 
 -- ---- what was read of a channel, and name and description into a buffer
 
-unfoldable pub channelTaken : ChannelRead → ChannelAnswer
-channelTaken r = record { refusal = refusalOf (r .verdict); common = r .channel .common; info = infoFields (r .channel .info) }
+unfoldable pub channelToC : ChannelRead → ChannelAnswer
+channelToC r = record { refusal = refusalOf (r .validity); common = r .channel .common; info = channelInfo (r .channel .info) }
 
 abbrev pub ChannelOut : ChannelRead → List ℕ → ChannelAnswer → List ℕ → Type 0
-ChannelOut = TextsOut (λ r. r .verdict) (λ r. r .channel .name ++ r .channel .description) channelTaken 64 (channelAnswer (Refused 25 0) [])
+ChannelOut = TextsOut (λ r. r .validity) (λ r. r .channel .name ++ r .channel .description) channelToC 64 (channelAnswer (Refused 25 0) [])

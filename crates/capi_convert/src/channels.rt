@@ -1,43 +1,43 @@
 // A channel as numbers.
-use bits::Halves;
-use capi_numbers::InfoFields;
+use bits::Nibbles;
+use capi_numbers::ChannelInfo;
 use capi_numbers::Refusal;
 use channel::Info;
 use channel::values::contact_index_number;
-use fields::rule::Verdict;
+use fields::rule::Validity;
 use format::sizes::CHANNEL_SIZE;
 use tones::index_in;
 use tones::is_enabled;
 ghost use mathlib.Core.Path.{_≡_};
 ghost use lib.ListN.{length};
 ghost use Rattle.channel_reader.specs.Reading.{infoOf, channelAnswer};
-ghost use Rattle.capi_convert.specs.Channels.{infoFields, ChannelOut};
+ghost use Rattle.capi_convert.specs.Channels.{channelInfo, ChannelOut};
 
 #[repr(C)]
 pub struct ChannelAnswer {
     pub refusal: Refusal,
     pub common: channel::Common,
-    pub info: InfoFields,
+    pub info: ChannelInfo,
 }
 
 // A blank channel's numbers; in another channel's, those of the other modes. Contact 65,535 is nobody.
-const NO_INFO: InfoFields = InfoFields {
+const NO_INFO: ChannelInfo = ChannelInfo {
     contact: 65535,
     mode: channel::FM,
     receive_tone: 0,
     receive_tone_on: false,
     transmit_tone: 0,
     transmit_tone_on: false,
-    colours: Halves { high: 0, low: 0 },
+    colours: Nibbles { high: 0, low: 0 },
     slot: 0,
-    access: Halves { high: 0, low: 0 },
+    access: Nibbles { high: 0, low: 0 },
     operation: 0,
     encryption: 0,
     position: false,
 };
 
-fn fm_fields(i: channel::FmInfo) -> InfoFields
-    ensures { λ r. ⌜ r ≡ infoFields (Info.Fm i) ⌝ }
+fn fm_info(i: channel::FmInfo) -> ChannelInfo
+    ensures { λ r. ⌜ r ≡ channelInfo (Info.Fm i) ⌝ }
 {
     let receive = i.receive;
     let transmit = i.transmit;
@@ -49,8 +49,8 @@ fn fm_fields(i: channel::FmInfo) -> InfoFields
     v
 }
 
-fn dmr_fields(i: channel::DmrInfo) -> InfoFields
-    ensures { λ r. ⌜ r ≡ infoFields (Info.Dmr i) ⌝ }
+fn dmr_info(i: channel::DmrInfo) -> ChannelInfo
+    ensures { λ r. ⌜ r ≡ channelInfo (Info.Dmr i) ⌝ }
 {
     let contact = i.contact;
     let colours = i.colours;
@@ -62,8 +62,8 @@ fn dmr_fields(i: channel::DmrInfo) -> InfoFields
     v
 }
 
-fn m17_fields(i: channel::M17Info) -> InfoFields
-    ensures { λ r. ⌜ r ≡ infoFields (Info.M17 i) ⌝ }
+fn m17_info(i: channel::M17Info) -> ChannelInfo
+    ensures { λ r. ⌜ r ≡ channelInfo (Info.M17 i) ⌝ }
 {
     let contact = i.contact;
     let access = i.access;
@@ -77,24 +77,24 @@ fn m17_fields(i: channel::M17Info) -> InfoFields
     v
 }
 
-fn fields_of(s: &[u8]) -> InfoFields
-    ensures { λ r. ⌜ r ≡ infoFields (infoOf (now (s .entry))) ⌝ }
+fn channel_info(s: &[u8]) -> ChannelInfo
+    ensures { λ r. ⌜ r ≡ channelInfo (infoOf (now (s .entry))) ⌝ }
 {
     match fields::numbers::byte_at(s, 0) {
-        channel::FM => fm_fields(channel_reader::fm_of(s)),
-        channel::DMR => dmr_fields(channel_reader::dmr_of(s)),
-        _ => m17_fields(channel_reader::m17_of(s)),
+        channel::FM => fm_info(channel_reader::fm_of(s)),
+        channel::DMR => dmr_info(channel_reader::dmr_of(s)),
+        _ => m17_info(channel_reader::m17_of(s)),
     }
 }
 
-// A channel with this verdict from its 90 bytes; name and description go into the buffer. `whole` is those bytes again, but says to the
+// A channel with this validity from its 90 bytes; name and description go into the buffer. `whole` is those bytes again, but says to the
 // compiler how many there are.
-pub fn channel_out(texts: &mut [u8], v: Verdict, s: &[u8]) -> ChannelAnswer
-    requires { ⌜ (v ≡ Verdict.Good → length (now s) ≡ 90) ⌝ }
+pub fn channel_out(texts: &mut [u8], v: Validity, s: &[u8]) -> ChannelAnswer
+    requires { ⌜ (v ≡ Validity.Valid → length (now s) ≡ 90) ⌝ }
     ensures { λ r. ⌜ ChannelOut (channelAnswer v (now (s .entry))) (now (texts .entry)) r (now (texts .exit)) ⌝ }
 {
-    let told = crate::texts::put_texts(texts, v, s, 13);
-    if let Verdict::Refused(number, place) = told {
+    let validity = crate::texts::put_texts(texts, v, s, 13);
+    if let Validity::Refused(number, place) = validity {
         let blank = channel_reader::blank();
         let common = blank.common;
         return ChannelAnswer {
@@ -105,8 +105,8 @@ pub fn channel_out(texts: &mut [u8], v: Verdict, s: &[u8]) -> ChannelAnswer
     }
     let whole = &s[0..CHANNEL_SIZE];
     ChannelAnswer {
-        refusal: capi_numbers::GOOD,
+        refusal: capi_numbers::OK,
         common: channel_reader::common_of(whole),
-        info: fields_of(whole),
+        info: channel_info(whole),
     }
 }

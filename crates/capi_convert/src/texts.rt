@@ -1,5 +1,5 @@
 // A record's texts into a lent buffer: 25 where it is too short, then the record's own refusal; beside one it stays as lent.
-use fields::rule::Verdict;
+use fields::rule::Validity;
 use fields::rule::first;
 use fields::rule::unless;
 use format::refusals::SHORT_BUFFER;
@@ -22,28 +22,28 @@ fn put_text(out: &mut [u8], at: usize, s: &[u8], k: usize)
 }
 
 // The text that a record begins with.
-pub(crate) fn put_name(out: &mut [u8], v: Verdict, s: &[u8]) -> Verdict
-    requires { ⌜ (v ≡ Verdict.Good → 32 ≤ length (now s)) ⌝ }
+pub(crate) fn put_name(out: &mut [u8], v: Validity, s: &[u8]) -> Validity
+    requires { ⌜ (v ≡ Validity.Valid → 32 ≤ length (now s)) ⌝ }
     ensures { λ r. ⌜ TextsPut 32 (part (now (s .entry)) 0 32) v (now (out .entry)) r (now (out .exit)) ⌝ }
 {
-    let told = first(unless(TEXT_SIZE <= out.len(), SHORT_BUFFER, 0), v);
-    if let Verdict::Refused(_, _) = told {
-        return told;
+    let validity = first(unless(TEXT_SIZE <= out.len(), SHORT_BUFFER, 0), v);
+    if let Validity::Refused(_, _) = validity {
+        return validity;
     }
     put_text(out, 0, s, 0);
-    told
+    validity
 }
 
 // The two texts at k, one behind the other.
-pub(crate) fn put_texts(out: &mut [u8], v: Verdict, s: &[u8], k: usize) -> Verdict
-    requires { ⌜ (v ≡ Verdict.Good → k + 64 ≤ length (now s)) ⌝ }
+pub(crate) fn put_texts(out: &mut [u8], v: Validity, s: &[u8], k: usize) -> Validity
+    requires { ⌜ (v ≡ Validity.Valid → k + 64 ≤ length (now s)) ⌝ }
     ensures { λ r. ⌜ TextsPut 64 (part (now (s .entry)) k 64) v (now (out .entry)) r (now (out .exit)) ⌝ }
 {
-    let told = first(unless(TEXTS_SIZE <= out.len(), SHORT_BUFFER, 0), v);
-    if let Verdict::Refused(_, _) = told {
-        return told;
+    let validity = first(unless(TEXTS_SIZE <= out.len(), SHORT_BUFFER, 0), v);
+    if let Validity::Refused(_, _) = validity {
+        return validity;
     }
     put_text(out, 0, s, k);
     put_text(out, 32, s, k + 32);
-    told
+    validity
 }

@@ -1,8 +1,8 @@
 -- Refusals, and the answers of the two calls, of addresses and of tones, as numbers.
 use Prim.Native.Nat.{ℕ}
 use mathlib.Core.Bool.{true, false}
-use Rattle.fields.specs.declared.rule.Verdict.{Verdict}
-use Rattle.fields.specs.declared.rule.Verdict.the-variants as verdict
+use Rattle.fields.specs.declared.rule.Validity.{Validity}
+use Rattle.fields.specs.declared.rule.Validity.the-variants as validity
 use Rattle.journal.specs.declared.answer.Answer.{Answer}
 use Rattle.journal.specs.declared.answer.Answer.the-variants as answer
 use Rattle.m17.specs.declared.Encoded.{Encoded}
@@ -14,7 +14,7 @@ use Rattle.tones.specs.declared.Frequency.the-variants as frequency
 use Rattle.tones.specs.declared.ToneIndex.{ToneIndex}
 use Rattle.tones.specs.declared.ToneIndex.the-variants as index
 use Rattle.capi_numbers.specs.declared.Refusal.{Refusal}
-use Rattle.capi_numbers.specs.declared.CallAnswer.{CallAnswer}
+use Rattle.capi_numbers.specs.declared.EditAnswer.{EditAnswer}
 use Rattle.capi_numbers.specs.declared.EncodeAnswer.{EncodeAnswer}
 use Rattle.capi_numbers.specs.declared.DecodeAnswer.{DecodeAnswer}
 
@@ -22,13 +22,14 @@ use Rattle.capi_numbers.specs.declared.DecodeAnswer.{DecodeAnswer}
 abbrev pub refused : ℕ → ℕ → Refusal
 refused n p = record { number = n; place = p }
 
-abbrev pub refusalOf : Verdict → Refusal
-refusalOf verdict.Good = refused 0 0
-refusalOf (verdict.Refused n p) = refused n p
+abbrev pub refusalOf : Validity → Refusal
+refusalOf validity.Valid = refused 0 0
+refusalOf (validity.Refused n p) = refused n p
 
-abbrev pub callAnswer : Answer → CallAnswer
-callAnswer (answer.Done len used entries) = record { refusal = refused 0 0; length = len; used = used; entries = entries }
-callAnswer (answer.Refused n p) = record { refusal = refused n p; length = 0; used = 0; entries = 0 }
+-- of a call with these two lengths: a refused one changes nothing, lengths included
+abbrev pub editAnswer : Answer → ℕ → ℕ → EditAnswer
+editAnswer (answer.Done len used entries) length-given used-given = record { refusal = refused 0 0; length = len; used = used; entries = entries }
+editAnswer (answer.Refused n p) length-given used-given = record { refusal = refused n p; length = length-given; used = used-given; entries = 0 }
 
 abbrev pub encodeAnswer : Encoded → EncodeAnswer
 encodeAnswer (encoded.Number a) = record { refusal = refused 0 0; address = a }

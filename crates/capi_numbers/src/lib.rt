@@ -1,14 +1,16 @@
 // The structures of the C interface that are numbers alone: a refusal, the answers of the two calls, of addresses and of tones, and a record's
 // values.
-use bits::Halves;
-use fields::rule::Verdict;
+pub mod history; // history.rt: how many entries a history holds
+
+use bits::Nibbles;
+use fields::rule::Validity;
 use journal::answer::Answer;
 use m17::Decoded;
 use m17::Encoded;
 use tones::Frequency;
 use tones::ToneIndex;
 ghost use mathlib.Core.Path.{_≡_};
-ghost use Rattle.capi_numbers.specs.Numbers.{refusalOf, callAnswer, encodeAnswer, decodeAnswer, tenthsOf, indexNumber};
+ghost use Rattle.capi_numbers.specs.Numbers.{refusalOf, editAnswer, encodeAnswer, decodeAnswer, tenthsOf, indexNumber};
 
 // A refusal's number, 0 for none, and its place. Every answer that is a structure begins with one.
 #[repr(C)]
@@ -17,43 +19,44 @@ pub struct Refusal {
     pub place: usize,
 }
 
-pub const GOOD: Refusal = Refusal {
+pub const OK: Refusal = Refusal {
     number: 0,
     place: 0,
 };
 
-pub fn refusal_of(v: Verdict) -> Refusal
+pub fn refusal_of(v: Validity) -> Refusal
     ensures { λ r. ⌜ r ≡ refusalOf v ⌝ }
 {
     match v {
-        Verdict::Good => GOOD,
-        Verdict::Refused(number, place) => Refusal { number, place },
+        Validity::Valid => OK,
+        Validity::Refused(number, place) => Refusal { number, place },
     }
 }
 
-// Both new lengths and the number of entries left; 0 beside a refusal.
+// Both new lengths and the number of entries left; beside a refusal the lengths as given, and 0 entries.
 #[repr(C)]
-pub struct CallAnswer {
+pub struct EditAnswer {
     pub refusal: Refusal,
     pub length: usize,
     pub used: usize,
     pub entries: usize,
 }
 
-pub fn call_answer(a: Answer) -> CallAnswer
-    ensures { λ r. ⌜ r ≡ callAnswer a ⌝ }
+// The answer of a call with these two lengths.
+pub fn edit_answer(a: Answer, length: usize, used: usize) -> EditAnswer
+    ensures { λ r. ⌜ r ≡ editAnswer a length used ⌝ }
 {
     match a {
-        Answer::Done(length, used, entries) => CallAnswer {
-            refusal: GOOD,
-            length,
-            used,
+        Answer::Done(new_length, new_used, entries) => EditAnswer {
+            refusal: OK,
+            length: new_length,
+            used: new_used,
             entries,
         },
-        Answer::Refused(number, place) => CallAnswer {
+        Answer::Refused(number, place) => EditAnswer {
             refusal: Refusal { number, place },
-            length: 0,
-            used: 0,
+            length,
+            used,
             entries: 0,
         },
     }
@@ -71,7 +74,7 @@ pub fn encode_answer(e: Encoded) -> EncodeAnswer
 {
     match e {
         Encoded::Number(address) => EncodeAnswer {
-            refusal: GOOD,
+            refusal: OK,
             address,
         },
         Encoded::Refused(number, place) => EncodeAnswer {
@@ -94,12 +97,12 @@ pub fn decode_answer(d: Decoded) -> DecodeAnswer
 {
     match d {
         Decoded::Text(length) => DecodeAnswer {
-            refusal: GOOD,
+            refusal: OK,
             length,
             broadcast: false,
         },
         Decoded::Broadcast => DecodeAnswer {
-            refusal: GOOD,
+            refusal: OK,
             length: 0,
             broadcast: true,
         },
@@ -132,28 +135,28 @@ pub fn index_number(i: ToneIndex) -> u8
 // A contact but for its name. Mode 1 is DMR (id, kind, rx tone), mode 2 is M17 (address, broadcast); the other mode's numbers are 0 in what is
 // read, and unread in what is written.
 #[repr(C)]
-pub struct ContactFields {
+pub struct ContactValues {
     pub address: u64,
     pub id: u32,
     pub mode: u8,
-    pub kind: u8,
+    pub contact_type: u8,
     pub rx_tone: bool,
     pub broadcast: bool,
 }
 
 // A channel's info. Mode 0 is FM (the tones), 1 DMR (colours, slot, contact), 2 M17 (access, operation, encryption, position, contact). Of
-// colours and access the high half is for receive, the low for transmit.
+// colours and access the high nibble is for receive, the low for transmit.
 #[repr(C)]
-pub struct InfoFields {
+pub struct ChannelInfo {
     pub contact: u16,
     pub mode: u8,
     pub receive_tone: u8,
     pub receive_tone_on: bool,
     pub transmit_tone: u8,
     pub transmit_tone_on: bool,
-    pub colours: Halves,
+    pub colours: Nibbles,
     pub slot: u8,
-    pub access: Halves,
+    pub access: Nibbles,
     pub operation: u8,
     pub encryption: u8,
     pub position: bool,

@@ -1,4 +1,4 @@
--- Writing a channel from its numbers: a good mode is judged as the library judges, a foreign one answers behind the buffer's length.
+-- Writing a channel from its numbers: a mode that is there is validated as the library does, a foreign one answers behind the buffer's length.
 use mathlib.Core.Path.{_≡_, refl, sym}
 use Prim.Native.Nat.{ℕ, _≤_, _<_}
 use mathlib.Core.Bool.{Bool, true, false}
@@ -7,16 +7,16 @@ use lib.ListN.{length}
 use lib.Dec.{leb}
 use borrow.Author.Tests.{le-leb, lt-leb}
 use Rattle.fields.specs.Rule.{_then_, unless, written}
-use Rattle.fields.specs.declared.rule.Verdict.{Verdict}
-use Rattle.fields.specs.declared.rule.Verdict.the-variants.{Good, Refused}
+use Rattle.fields.specs.declared.rule.Validity.{Validity}
+use Rattle.fields.specs.declared.rule.Validity.the-variants.{Valid, Refused}
 use Rattle.channel.specs.Values.{modeOk}
-use Rattle.channel_writer.specs.Writing.{channelGiven, channelWritten}
+use Rattle.channel_writer.specs.Writing.{channelWriteRule, channelWritten}
 use Rattle.channel.specs.declared.Common.{Common}
 use Rattle.channel.specs.declared.Info.{Info}
 use Rattle.capi_numbers.specs.Numbers.{refusalOf}
-use Rattle.capi_write.specs.Channels.{infoFrom, channelAsked, channelLeft, ChannelAnswered}
+use Rattle.capi_write.specs.Channels.{infoFrom, channelFromCRule, channelFromCWritten, ChannelFromC}
 use Rattle.capi_numbers.specs.declared.Refusal.{Refusal}
-use Rattle.capi_numbers.specs.declared.InfoFields.{InfoFields}
+use Rattle.capi_numbers.specs.declared.ChannelInfo.{ChannelInfo}
 
 mode-known : (m : ℕ) → m ≤ 2 → modeOk m ≡ true
 unfolding modeOk
@@ -27,40 +27,40 @@ unfolding modeOk
 mode-foreign m h = lt-leb m 2 h
 
 -- a chain that ends in a refusal writes nothing
-stopped : (a : Verdict) (n p : ℕ) (out s : List ℕ) → written (a then Refused n p) out s ≡ out
+stopped : (a : Validity) (n p : ℕ) (out s : List ℕ) → written (a then Refused n p) out s ≡ out
 unfolding written _then_
-stopped Good n p out s = refl
+stopped Valid n p out s = refl
 stopped (Refused m q) n p out s = refl
 
 -- a test that was passed before
-again : (b : Bool) (n p : ℕ) (v : Verdict) → (unless b n p then (unless b n p then v)) ≡ (unless b n p then v)
+again : (b : Bool) (n p : ℕ) (v : Validity) → (unless b n p then (unless b n p then v)) ≡ (unless b n p then v)
 unfolding unless _then_
 again true n p v = refl
 again false n p v = refl
 
-module _ (out name description : List ℕ) (common : Common) (info : InfoFields) where
-  asked-known : info .mode ≤ 2
-      → channelAsked (length out) name description common info ≡ channelGiven (length out) name description common (infoFrom info)
-  unfolding channelAsked channelGiven unless _then_
-  asked-known h = rw (mode-known (info .mode) h) (again (leb 90 (length out)) 25 0 _)
+module _ (out name description : List ℕ) (common : Common) (info : ChannelInfo) where
+  known-mode : info .mode ≤ 2
+      → channelFromCRule (length out) name description common info ≡ channelWriteRule (length out) name description common (infoFrom info)
+  unfolding channelFromCRule channelWriteRule unless _then_
+  known-mode h = rw (mode-known (info .mode) h) (again (leb 90 (length out)) 25 0 _)
 
-  asked-foreign : 2 < info .mode → channelAsked (length out) name description common info ≡ unless (leb 90 (length out)) 25 0 then Refused 6 0
-  unfolding channelAsked unless _then_
-  asked-foreign h = rw (mode-foreign (info .mode) h)
+  foreign-mode : 2 < info .mode → channelFromCRule (length out) name description common info ≡ unless (leb 90 (length out)) 25 0 then Refused 6 0
+  unfolding channelFromCRule unless _then_
+  foreign-mode h = rw (mode-foreign (info .mode) h)
 
   -- the library's answer is the one asked for
-  pub channel-goes : (i : Info) (r : Verdict) (q : Refusal) (left : List ℕ) → info .mode ≤ 2 → i ≡ infoFrom info
-      → (r ≡ channelGiven (length out) name description common i) × (left ≡ channelWritten out name description common i)
-      → q ≡ refusalOf r → ChannelAnswered out name description common info q left
-  unfolding channelWritten channelLeft
+  pub channel-goes : (i : Info) (r : Validity) (q : Refusal) (left : List ℕ) → info .mode ≤ 2 → i ≡ infoFrom info
+      → (r ≡ channelWriteRule (length out) name description common i) × (left ≡ channelWritten out name description common i)
+      → q ≡ refusalOf r → ChannelFromC out name description common info q left
+  unfolding channelWritten channelFromCWritten
   channel-goes i r q left h ie w e =
-      let known = asked-known h in
+      let known = known-mode h in
       (rw (e, w .0, known, ie), rw (known, ← ie) (w .1))
 
   -- the answer to a foreign mode, and the buffer as lent
-  pub channel-stops : (r : Verdict) (q : Refusal) → 2 < info .mode → r ≡ unless (leb 90 (length out)) 25 0 then Refused 6 0
-      → q ≡ refusalOf r → ChannelAnswered out name description common info q out
-  unfolding channelLeft
+  pub channel-stops : (r : Validity) (q : Refusal) → 2 < info .mode → r ≡ unless (leb 90 (length out)) 25 0 then Refused 6 0
+      → q ≡ refusalOf r → ChannelFromC out name description common info q out
+  unfolding channelFromCWritten
   channel-stops r q h e f =
-      let foreign = asked-foreign h in
+      let foreign = foreign-mode h in
       (rw (f, e, foreign), rw foreign (sym (stopped (unless (leb 90 (length out)) 25 0) 6 0 out _)))

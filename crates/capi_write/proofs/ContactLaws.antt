@@ -1,4 +1,4 @@
--- Writing a contact from its numbers: a good mode is judged as the library judges, a foreign one answers behind the name.
+-- Writing a contact from its numbers: a mode that is there is validated as the library does, a foreign one answers behind the name.
 use mathlib.Core.Path.{_≡_, refl, sym}
 use Prim.Native.Nat.{ℕ}
 use mathlib.Core.Bool.{Bool, true, false}
@@ -8,14 +8,14 @@ use lib.Dec.{leb}
 use borrow.Author.Tests.{ne-eqb}
 use Rattle.text.specs.Text.{givenOk}
 use Rattle.fields.specs.Rule.{_then_, unless, written}
-use Rattle.fields.specs.declared.rule.Verdict.{Verdict}
-use Rattle.fields.specs.declared.rule.Verdict.the-variants.{Good, Refused}
-use Rattle.contact.specs.Contact.{modeOk, contactGiven, contactWritten}
+use Rattle.fields.specs.declared.rule.Validity.{Validity}
+use Rattle.fields.specs.declared.rule.Validity.the-variants.{Valid, Refused}
+use Rattle.contact.specs.Contact.{modeOk, contactWriteRule, contactWritten}
 use Rattle.contact.specs.declared.ContactInfo.{ContactInfo}
 use Rattle.capi_numbers.specs.Numbers.{refusalOf}
-use Rattle.capi_write.specs.Contacts.{infoFrom, contactAsked, contactLeft, ContactAnswered}
+use Rattle.capi_write.specs.Contacts.{infoFrom, contactFromCRule, contactFromCWritten, ContactFromC}
 use Rattle.capi_numbers.specs.declared.Refusal.{Refusal}
-use Rattle.capi_numbers.specs.declared.ContactFields.{ContactFields}
+use Rattle.capi_numbers.specs.declared.ContactValues.{ContactValues}
 
 pub dmr-known : (m : ℕ) → m ≡ 1 → modeOk m ≡ true
 unfolding modeOk
@@ -30,44 +30,44 @@ unfolding modeOk
 mode-foreign m one two = rw (ne-eqb m 1 one, ne-eqb m 2 two)
 
 -- two tests that were passed before
-again : (a b : Bool) (m n p q : ℕ) (v : Verdict)
+again : (a b : Bool) (m n p q : ℕ) (v : Validity)
     → (unless a m p then unless b n q then unless a m p then unless b n q then v) ≡ (unless a m p then unless b n q then v)
 unfolding unless _then_
 again true true m n p q v = refl
 again true false m n p q v = refl
 again false b m n p q v = refl
 
-asked-known : (size : ℕ) (name : List ℕ) (v : ContactFields) → modeOk (v .mode) ≡ true
-    → contactAsked size name v ≡ contactGiven size name (infoFrom v)
-unfolding contactAsked contactGiven unless _then_
-asked-known size name v ok = rw ok (again (leb 39 size) (givenOk name) 25 5 0 0 _)
+known-mode : (size : ℕ) (name : List ℕ) (v : ContactValues) → modeOk (v .mode) ≡ true
+    → contactFromCRule size name v ≡ contactWriteRule size name (infoFrom v)
+unfolding contactFromCRule contactWriteRule unless _then_
+known-mode size name v ok = rw ok (again (leb 39 size) (givenOk name) 25 5 0 0 _)
 
-asked-foreign : (size : ℕ) (name : List ℕ) (v : ContactFields) → modeOk (v .mode) ≡ false
-    → contactAsked size name v ≡ unless (leb 39 size) 25 0 then unless (givenOk name) 5 0 then Refused 6 32
-unfolding contactAsked unless _then_
-asked-foreign size name v bad = rw bad
+foreign-mode : (size : ℕ) (name : List ℕ) (v : ContactValues) → modeOk (v .mode) ≡ false
+    → contactFromCRule size name v ≡ unless (leb 39 size) 25 0 then unless (givenOk name) 5 0 then Refused 6 32
+unfolding contactFromCRule unless _then_
+foreign-mode size name v bad = rw bad
 
 -- a chain that ends in a refusal writes nothing
-stopped : (a b : Verdict) (n p : ℕ) (out s : List ℕ) → written (a then b then Refused n p) out s ≡ out
+stopped : (a b : Validity) (n p : ℕ) (out s : List ℕ) → written (a then b then Refused n p) out s ≡ out
 unfolding written _then_
-stopped Good Good n p out s = refl
-stopped Good (Refused m q) n p out s = refl
+stopped Valid Valid n p out s = refl
+stopped Valid (Refused m q) n p out s = refl
 stopped (Refused m q) b n p out s = refl
 
 -- the library's answer is the one asked for
-pub contact-goes : (out name : List ℕ) (v : ContactFields) (info : ContactInfo) (r : Verdict) (q : Refusal) (left : List ℕ) → modeOk (v .mode) ≡ true
-    → info ≡ infoFrom v → (r ≡ contactGiven (length out) name info) × (left ≡ contactWritten out name info)
-    → q ≡ refusalOf r → ContactAnswered out name v q left
-unfolding contactWritten contactLeft
+pub contact-goes : (out name : List ℕ) (v : ContactValues) (info : ContactInfo) (r : Validity) (q : Refusal) (left : List ℕ) → modeOk (v .mode) ≡ true
+    → info ≡ infoFrom v → (r ≡ contactWriteRule (length out) name info) × (left ≡ contactWritten out name info)
+    → q ≡ refusalOf r → ContactFromC out name v q left
+unfolding contactWritten contactFromCWritten
 contact-goes out name v info r q left ok means w e =
-    let known = asked-known (length out) name v ok in
+    let known = known-mode (length out) name v ok in
     (rw (e, w .0, known, means), rw (known, ← means) (w .1))
 
 -- the answer to a foreign mode, and the buffer as lent
-pub contact-stops : (out name : List ℕ) (v : ContactFields) (r : Verdict) (q : Refusal) → modeOk (v .mode) ≡ false
+pub contact-stops : (out name : List ℕ) (v : ContactValues) (r : Validity) (q : Refusal) → modeOk (v .mode) ≡ false
     → r ≡ unless (leb 39 (length out)) 25 0 then unless (givenOk name) 5 0 then Refused 6 32
-    → q ≡ refusalOf r → ContactAnswered out name v q out
-unfolding contactLeft
+    → q ≡ refusalOf r → ContactFromC out name v q out
+unfolding contactFromCWritten
 contact-stops out name v r q bad e f =
-    let foreign = asked-foreign (length out) name v bad in
+    let foreign = foreign-mode (length out) name v bad in
     (rw (f, e, foreign), rw foreign (sym (stopped (unless (leb 39 (length out)) 25 0) (unless (givenOk name) 5 0) 6 32 out _)))

@@ -7,35 +7,35 @@ use lib.ListN.{length}
 use lib.Dec.{eqb, leb}
 use Rattle.text.specs.Text.{givenOk}
 use Rattle.fields.specs.Rule.{_then_, unless, written}
-use Rattle.fields.specs.declared.rule.Verdict.{Verdict}
+use Rattle.fields.specs.declared.rule.Validity.{Validity}
 use Rattle.m17.specs.declared.Address.the-variants.{Callsign, Broadcast}
-use Rattle.contact.specs.Contact.{modeOk, contactGiven, contactBytes}
+use Rattle.contact.specs.Contact.{modeOk, contactWriteRule, contactBytes}
 use Rattle.contact.specs.declared.ContactInfo.{ContactInfo}
 use Rattle.contact.specs.declared.ContactInfo.the-variants.{M17, Dmr}
 use Rattle.capi_numbers.specs.Numbers.{refusalOf}
 use Rattle.capi_numbers.specs.declared.Refusal.{Refusal}
-use Rattle.capi_numbers.specs.declared.ContactFields.{ContactFields}
+use Rattle.capi_numbers.specs.declared.ContactValues.{ContactValues}
 
--- what the numbers mean, the other mode's unread, and the address too where `broadcast` is set; only of use where the mode is good
-abbrev pub infoFrom : ContactFields → ContactInfo
+-- what the numbers mean, the other mode's unread, and the address too where `broadcast` is set; only of use where the mode is valid
+abbrev pub infoFrom : ContactValues → ContactInfo
 infoFrom v =
     cond (eqb (v .mode) 1)
-    (Dmr (record { id = v .id; settings = record { kind = v .kind; «rx_tone» = v .«rx_tone» } }))
+    (Dmr (record { id = v .id; settings = record { «contact_type» = v .«contact_type»; «rx_tone» = v .«rx_tone» } }))
     (M17 (cond (v .broadcast) Broadcast (Callsign (v .address))))
 
--- ---- a contact: what the library's writer refuses, the mode judged in its turn, at 32, after 25 and the name
+-- ---- a contact: what the library's writer refuses, the mode validated in its turn, at 32, after 25 and the name
 
-unfoldable pub contactAsked : ℕ → List ℕ → ContactFields → Verdict
-contactAsked size name v =
+unfoldable pub contactFromCRule : ℕ → List ℕ → ContactValues → Validity
+contactFromCRule size name v =
     unless (leb 39 size) 25 0
     then unless (givenOk name) 5 0
     then unless (modeOk (v .mode)) 6 32
-    then contactGiven size name (infoFrom v)
+    then contactWriteRule size name (infoFrom v)
 
 -- the later contents of the buffer
-unfoldable pub contactLeft : List ℕ → List ℕ → ContactFields → List ℕ
-contactLeft out name v = written (contactAsked (length out) name v) out (contactBytes name (infoFrom v))
+unfoldable pub contactFromCWritten : List ℕ → List ℕ → ContactValues → List ℕ
+contactFromCWritten out name v = written (contactFromCRule (length out) name v) out (contactBytes name (infoFrom v))
 
--- a refusal, and what is left of the buffer
-abbrev pub ContactAnswered : List ℕ → List ℕ → ContactFields → Refusal → List ℕ → Type 0
-ContactAnswered out name v r left = (r ≡ refusalOf (contactAsked (length out) name v)) × (left ≡ contactLeft out name v)
+-- a refusal, and the buffer after it
+abbrev pub ContactFromC : List ℕ → List ℕ → ContactValues → Refusal → List ℕ → Type 0
+ContactFromC out name v r after = (r ≡ refusalOf (contactFromCRule (length out) name v)) × (after ≡ contactFromCWritten out name v)

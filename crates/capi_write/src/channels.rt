@@ -1,18 +1,18 @@
 // A channel written from its numbers.
-use capi_numbers::InfoFields;
+use capi_numbers::ChannelInfo;
 use capi_numbers::refusal_of;
 use channel::Info;
-use fields::rule::Verdict;
+use fields::rule::Validity;
 use fields::rule::first;
 use fields::rule::unless;
 use format::refusals::MODE;
 use format::refusals::SHORT_BUFFER;
 use tones::tone_from;
 ghost use mathlib.Core.Path.{_≡_};
-ghost use Rattle.capi_write.specs.Channels.{infoFrom, ChannelAnswered};
+ghost use Rattle.capi_write.specs.Channels.{infoFrom, ChannelFromC};
 
 // The info that the numbers mean; any mode but 0 and 1 is taken for M17.
-fn info_from(v: InfoFields) -> Info
+fn info_from(v: ChannelInfo) -> Info
     ensures { λ r. ⌜ r ≡ infoFrom v ⌝ }
 {
     let contact = channel::values::contact_index_of(v.contact);
@@ -46,13 +46,13 @@ pub fn write(
     name: &[u8],
     description: &[u8],
     common: channel::Common,
-    info: InfoFields,
+    info: ChannelInfo,
 ) -> capi_numbers::Refusal
-    ensures { λ r. ⌜ ChannelAnswered (now (out .entry)) (now (name .entry)) (now (description .entry)) common info r (now (out .exit)) ⌝ }
+    ensures { λ r. ⌜ ChannelFromC (now (out .entry)) (now (name .entry)) (now (description .entry)) common info r (now (out .exit)) ⌝ }
 {
     if 2 < info.mode {
         let short = unless(format::sizes::CHANNEL_SIZE <= out.len(), SHORT_BUFFER, 0);
-        return refusal_of(first(short, Verdict::Refused(MODE, 0)));
+        return refusal_of(first(short, Validity::Refused(MODE, 0)));
     }
     let info = info_from(info);
     refusal_of(channel_writer::write(out, name, description, common, info))

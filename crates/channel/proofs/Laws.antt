@@ -1,7 +1,7 @@
--- Laws of channel records: single values, and what a good record's fields are.
+-- Laws of channel records: single values, and what a valid record's fields are.
 use Prim.Native.Nat.{ℕ, zero, suc, _+_, _-_, _≤_, _<_}
-use mathlib.Core.Path.{_≡_, refl, _∙_}
-use mathlib.Core.Bool.{Bool, true, false, _&&_}
+use mathlib.Core.Path.{_≡_, refl, sym, _∙_}
+use mathlib.Core.Bool.{Bool, true, false, _&&_, cond}
 use mathlib.Core.List.{List}
 use native.Mathlib.Omega.{arith}
 use lib.ListN.{length, getD}
@@ -9,15 +9,16 @@ use lib.Dec.{leb, ltb, eqb}
 use borrow.Author.Tests.{ltb-true, ltb-false, le-leb, lt-leb, eq-eqb, ne-eqb, leb-true, leb-false, eqb-true}
 use Rattle.fields.specs.Bytes.{part, num}
 use Rattle.text.specs.Text.{textOk}
-use Rattle.fields.specs.Rule.{_then_, fieldOf}
-use Rattle.fields.specs.declared.rule.Verdict.{Verdict}
-use Rattle.fields.specs.declared.rule.Verdict.the-variants.{Good}
-use Rattle.fields.proofs.Laws.{then-good, both-good, field-good, field-passes}
-use Rattle.bits.specs.Packed.{signedOf, choiceOk, halvesOf}
+use Rattle.fields.specs.Rule.{_then_, unless, fieldOf, field}
+use Rattle.fields.specs.declared.rule.Validity.{Validity}
+use Rattle.fields.specs.declared.rule.Validity.the-variants.{Valid, Refused}
+use Rattle.fields.proofs.Laws.{then-valid, both-valid, field-valid, field-passes, field-cut}
+use Rattle.bits.specs.Packed.{signedOf, numberFlagOk, nibblesOf}
 use Rattle.bits.proofs.Laws.{signedOf-low, signedOf-high, and-left, and-right, and-both}
 use Rattle.tones.specs.Tone.{toneOk}
-use Rattle.channel.specs.Values.{modeOk, latitudeOk, isNinety, fractionOk, latitudeFractionOk, slotOk, operationOk, encryptionOk}
-use Rattle.channel.specs.Rule.{headRule, textsRule, locationRule, fmRule, dmrRule, m17Rule, infoRule, channelRule}
+use Rattle.channel.specs.Values.{modeOk, latitudeOk, isNinety, fractionOk, latitudeFractionOk, slotOk, operationOk, encryptionOk, contactIndexOf}
+use Rattle.channel.specs.Rule.{headRule, textsRule, locationRule, fmRule, dmrRule, m17Rule, infoRule, channelRule, namedContact}
+use Rattle.channel.specs.declared.ContactIndex.the-variants.{Nobody}
 
 -- ---- a latitude by its byte
 
@@ -71,25 +72,25 @@ fraction-other b x h = rw (ninety-byte b, ne-eqb b 90 h) (and-so (fractionOk x))
 
 -- ---- what a record's fields are where the rule finds nothing; none of it speaks of where the record stands
 
-pub record GoodFm (s : List ℕ) : Type 0 where
+pub record ValidFm (s : List ℕ) : Type 0 where
   pub receive : toneOk (getD s 85 0) ≡ true
   pub transmit : toneOk (getD s 86 0) ≡ true
   pub pad : getD s 87 0 ≡ 0
   pub second : getD s 88 0 ≡ 0
   pub third : getD s 89 0 ≡ 0
 
-pub record GoodDmr (s : List ℕ) : Type 0 where
+pub record ValidDmr (s : List ℕ) : Type 0 where
   pub slot : slotOk (getD s 86 0) ≡ true
   pub pad : getD s 89 0 ≡ 0
 
-pub record GoodM17 (s : List ℕ) : Type 0 where
-  pub operation : operationOk (halvesOf (getD s 86 0) .high) ≡ true
-  pub encryption : encryptionOk (halvesOf (getD s 86 0) .low) ≡ true
+pub record ValidM17 (s : List ℕ) : Type 0 where
+  pub operation : operationOk (nibblesOf (getD s 86 0) .high) ≡ true
+  pub encryption : encryptionOk (nibblesOf (getD s 86 0) .low) ≡ true
   pub position : getD s 87 0 ≤ 1
 
-pub record GoodChannel (s : List ℕ) : Type 0 where
+pub record ValidChannel (s : List ℕ) : Type 0 where
   pub mode : getD s 0 0 ≤ 2
-  pub traits : choiceOk (getD s 1 0) ≡ true
+  pub traits : numberFlagOk (getD s 1 0) ≡ true
   pub scan : getD s 11 0 ≤ 250
   pub group : getD s 12 0 ≤ 128
   pub name : textOk (part s 13 32) ≡ true
@@ -97,9 +98,9 @@ pub record GoodChannel (s : List ℕ) : Type 0 where
   pub latitude : latitudeOk (signedOf (getD s 77 0)) ≡ true
   pub latitude-fraction : latitudeFractionOk (signedOf (getD s 77 0)) (num s 78 2) ≡ true
   pub longitude-fraction : fractionOk (num s 81 2) ≡ true
-  pub fm : getD s 0 0 ≡ 0 → GoodFm s
-  pub dmr : getD s 0 0 ≡ 1 → GoodDmr s
-  pub m17 : getD s 0 0 ≡ 2 → GoodM17 s
+  pub fm : getD s 0 0 ≡ 0 → ValidFm s
+  pub dmr : getD s 0 0 ≡ 1 → ValidDmr s
+  pub m17 : getD s 0 0 ≡ 2 → ValidM17 s
 
 -- ---- the info's rule by the mode
 
@@ -122,25 +123,25 @@ by-mode P zero f d x = f refl
 by-mode P (suc zero) f d x = d refl
 by-mode P (suc (suc m)) f d x = x (omega arith)
 
--- ---- a good record's fields, and its length
+-- ---- a valid record's fields, and its length
 
--- the first of several fields that are all good
-step : (left base k n number : ℕ) (ok : Bool) (v : Verdict) → fieldOf left base k n number ok then v ≡ Good
-    → (k + n ≤ left) × ((ok ≡ true) × (v ≡ Good))
+-- the first of several fields that are all valid
+step : (left base k n number : ℕ) (ok : Bool) (v : Validity) → fieldOf left base k n number ok then v ≡ Valid
+    → (k + n ≤ left) × ((ok ≡ true) × (v ≡ Valid))
 step left base k n number ok v h =
-    let g = then-good (fieldOf left base k n number ok) v h in
-    let f = field-good left base k n number ok (g .0) in
+    let g = then-valid (fieldOf left base k n number ok) v h in
+    let f = field-valid left base k n number ok (g .0) in
     (f .0, (f .1, g .1))
 
 module _ (s : List ℕ) (base : ℕ) where
-  good-fm : fmRule s base ≡ Good → GoodFm s × (90 ≤ length s)
+  valid-fm : fmRule s base ≡ Valid → ValidFm s × (90 ≤ length s)
   unfolding fmRule
-  good-fm h =
+  valid-fm h =
       let a = step _ _ _ _ _ _ _ h in
       let b = step _ _ _ _ _ _ _ (a .1 .1) in
       let c = step _ _ _ _ _ _ _ (b .1 .1) in
       let d = step _ _ _ _ _ _ _ (c .1 .1) in
-      let e = field-good _ _ _ _ _ _ (d .1 .1) in (
+      let e = field-valid _ _ _ _ _ _ (d .1 .1) in (
         record {
           receive = a .1 .0;
           transmit = b .1 .0;
@@ -151,90 +152,90 @@ module _ (s : List ℕ) (base : ℕ) where
         e .0,
       )
 
-  good-dmr : (named : Bool) → dmrRule s base named ≡ Good → GoodDmr s × ((90 ≤ length s) × (named ≡ true))
+  valid-dmr : (named : Bool) → dmrRule s base named ≡ Valid → ValidDmr s × ((90 ≤ length s) × (named ≡ true))
   unfolding dmrRule
-  good-dmr named h =
+  valid-dmr named h =
       let a = step _ _ _ _ _ _ _ h in
       let b = step _ _ _ _ _ _ _ (a .1 .1) in
       let c = step _ _ _ _ _ _ _ (b .1 .1) in
-      let d = field-good _ _ _ _ _ _ (c .1 .1) in
+      let d = field-valid _ _ _ _ _ _ (c .1 .1) in
       (record { slot = b .1 .0; pad = eqb-true _ _ (d .1) }, (d .0, c .1 .0))
 
-  good-m17 : (named : Bool) → m17Rule s base named ≡ Good → GoodM17 s × ((90 ≤ length s) × (named ≡ true))
+  valid-m17 : (named : Bool) → m17Rule s base named ≡ Valid → ValidM17 s × ((90 ≤ length s) × (named ≡ true))
   unfolding m17Rule
-  good-m17 named h =
+  valid-m17 named h =
       let a = step _ _ _ _ _ _ _ h in
       let b = step _ _ _ _ _ _ _ (a .1 .1) in
       let c = step _ _ _ _ _ _ _ (b .1 .1) in
-      let d = field-good _ _ _ _ _ _ (c .1 .1) in
-      let x : Bool = operationOk (halvesOf (getD s 86 0) .high) in
-      let y : Bool = encryptionOk (halvesOf (getD s 86 0) .low) in (
+      let d = field-valid _ _ _ _ _ _ (c .1 .1) in
+      let x : Bool = operationOk (nibblesOf (getD s 86 0) .high) in
+      let y : Bool = encryptionOk (nibblesOf (getD s 86 0) .low) in (
         record { operation = and-left x y (b .1 .0); encryption = and-right x y (b .1 .0); position = leb-true _ _ (c .1 .0) },
         (d .0, d .1),
       )
 
-  good-head : headRule s base ≡ Good
-      → (getD s 0 0 ≤ 2) × ((choiceOk (getD s 1 0) ≡ true) × ((getD s 11 0 ≤ 250) × (getD s 12 0 ≤ 128)))
+  valid-head : headRule s base ≡ Valid
+      → (getD s 0 0 ≤ 2) × ((numberFlagOk (getD s 1 0) ≡ true) × ((getD s 11 0 ≤ 250) × (getD s 12 0 ≤ 128)))
   unfolding headRule modeOk
-  good-head h =
+  valid-head h =
       let a = step _ _ _ _ _ _ _ h in
       let b = step _ _ _ _ _ _ _ (a .1 .1) in
       let c = step _ _ _ _ _ _ _ (b .1 .1) in
       let d = step _ _ _ _ _ _ _ (c .1 .1) in
       let e = step _ _ _ _ _ _ _ (d .1 .1) in
       let f = step _ _ _ _ _ _ _ (e .1 .1) in
-      let g = field-good _ _ _ _ _ _ (f .1 .1) in
+      let g = field-valid _ _ _ _ _ _ (f .1 .1) in
       (leb-true _ _ (a .1 .0), (b .1 .0, (leb-true _ _ (f .1 .0), leb-true _ _ (g .1))))
 
-  good-texts : textsRule s base ≡ Good → (textOk (part s 13 32) ≡ true) × (textOk (part s 45 32) ≡ true)
+  valid-texts : textsRule s base ≡ Valid → (textOk (part s 13 32) ≡ true) × (textOk (part s 45 32) ≡ true)
   unfolding textsRule
-  good-texts h =
+  valid-texts h =
       let a = step _ _ _ _ _ _ _ h in
-      let b = field-good _ _ _ _ _ _ (a .1 .1) in
+      let b = field-valid _ _ _ _ _ _ (a .1 .1) in
       (a .1 .0, b .1)
 
-  good-location : locationRule s base ≡ Good
+  valid-location : locationRule s base ≡ Valid
       → (latitudeOk (signedOf (getD s 77 0)) ≡ true) × ((latitudeFractionOk (signedOf (getD s 77 0)) (num s 78 2) ≡ true) × (fractionOk (num s 81 2) ≡ true))
   unfolding locationRule
-  good-location h =
+  valid-location h =
       let a = step _ _ _ _ _ _ _ h in
       let b = step _ _ _ _ _ _ _ (a .1 .1) in
       let c = step _ _ _ _ _ _ _ (b .1 .1) in
       let d = step _ _ _ _ _ _ _ (c .1 .1) in
       (a .1 .0, (b .1 .0, d .1 .0))
 
-  module _ (named : Bool) (h : channelRule s base named ≡ Good) where
-    good-parts : (headRule s base ≡ Good) × ((textsRule s base ≡ Good) × ((locationRule s base ≡ Good) × (infoRule s base named ≡ Good)))
+  module _ (named : Bool) (h : channelRule s base named ≡ Valid) where
+    valid-parts : (headRule s base ≡ Valid) × ((textsRule s base ≡ Valid) × ((locationRule s base ≡ Valid) × (infoRule s base named ≡ Valid)))
     unfolding channelRule
-    good-parts =
-        let a = then-good _ _ h in
-        let b = then-good _ _ (a .1) in
-        let c = then-good _ _ (b .1) in
+    valid-parts =
+        let a = then-valid _ _ h in
+        let b = then-valid _ _ (a .1) in
+        let c = then-valid _ _ (b .1) in
         (a .0, (b .0, (c .0, c .1)))
 
-    good-info : infoRule s base named ≡ Good
-    good-info = good-parts .1 .1 .1
+    valid-info : infoRule s base named ≡ Valid
+    valid-info = valid-parts .1 .1 .1
 
-    pub good-length : 90 ≤ length s
-    good-length =
+    pub valid-length : 90 ≤ length s
+    valid-length =
         by-mode (90 ≤ length s) (getD s 0 0)
-        (λ e. good-fm (rw (info-fm s base named e) at good-info) .1)
-        (λ e. good-dmr named (rw (info-dmr s base named e) at good-info) .1 .0)
-        (λ e. good-m17 named (rw (info-m17 s base named e) at good-info) .1 .0)
+        (λ e. valid-fm (rw (info-fm s base named e) at valid-info) .1)
+        (λ e. valid-dmr named (rw (info-dmr s base named e) at valid-info) .1 .0)
+        (λ e. valid-m17 named (rw (info-m17 s base named e) at valid-info) .1 .0)
 
     -- beside FM the rule asks that the contact index names a contact
-    pub good-named : 1 ≤ getD s 0 0 → named ≡ true
-    good-named l =
+    pub valid-named : 1 ≤ getD s 0 0 → named ≡ true
+    valid-named l =
         by-mode (named ≡ true) (getD s 0 0)
         (λ e. absurd (omega arith))
-        (λ e. good-dmr named (rw (info-dmr s base named e) at good-info) .1 .1)
-        (λ e. good-m17 named (rw (info-m17 s base named e) at good-info) .1 .1)
+        (λ e. valid-dmr named (rw (info-dmr s base named e) at valid-info) .1 .1)
+        (λ e. valid-m17 named (rw (info-m17 s base named e) at valid-info) .1 .1)
 
-    pub good-channel : GoodChannel s
-    good-channel =
-        let a = good-head (good-parts .0) in
-        let b = good-texts (good-parts .1 .0) in
-        let c = good-location (good-parts .1 .1 .0) in
+    pub valid-channel : ValidChannel s
+    valid-channel =
+        let a = valid-head (valid-parts .0) in
+        let b = valid-texts (valid-parts .1 .0) in
+        let c = valid-location (valid-parts .1 .1 .0) in
         record {
           mode = a .0;
           traits = a .1 .0;
@@ -245,49 +246,49 @@ module _ (s : List ℕ) (base : ℕ) where
           latitude = c .0;
           latitude-fraction = c .1 .0;
           longitude-fraction = c .1 .1;
-          fm = λ e. good-fm (rw (info-fm s base named e) at good-info) .0;
-          dmr = λ e. good-dmr named (rw (info-dmr s base named e) at good-info) .0;
-          m17 = λ e. good-m17 named (rw (info-m17 s base named (omega arith)) at good-info) .0;
+          fm = λ e. valid-fm (rw (info-fm s base named e) at valid-info) .0;
+          dmr = λ e. valid-dmr named (rw (info-dmr s base named e) at valid-info) .0;
+          m17 = λ e. valid-m17 named (rw (info-m17 s base named (omega arith)) at valid-info) .0;
         }
 
 -- ---- and back
 
--- a good field before others
-pass : (left base k n number : ℕ) (ok : Bool) (v : Verdict) → k + n ≤ left → ok ≡ true → v ≡ Good
-    → fieldOf left base k n number ok then v ≡ Good
+-- a valid field before others
+pass : (left base k n number : ℕ) (ok : Bool) (v : Validity) → k + n ≤ left → ok ≡ true → v ≡ Valid
+    → fieldOf left base k n number ok then v ≡ Valid
 pass left base k n number ok v h g e =
-    both-good (fieldOf left base k n number ok) v (field-passes left base k n number ok h g) e
+    both-valid (fieldOf left base k n number ok) v (field-passes left base k n number ok h g) e
 
 module _ (s : List ℕ) (base : ℕ) (l : 90 ≤ length s) where
-  fm-good : GoodFm s → fmRule s base ≡ Good
+  fm-valid : ValidFm s → fmRule s base ≡ Valid
   unfolding fmRule
-  fm-good g =
+  fm-valid g =
       pass _ _ 85 1 _ _ _ (omega arith) (g .receive)
       (pass _ _ 86 1 _ _ _ (omega arith) (g .transmit)
       (pass _ _ 87 1 _ _ _ (omega arith) (eq-eqb _ _ (g .pad))
       (pass _ _ 88 1 _ _ _ (omega arith) (eq-eqb _ _ (g .second))
       (field-passes _ _ 89 1 _ _ (omega arith) (eq-eqb _ _ (g .third))))))
 
-  dmr-good : GoodDmr s → dmrRule s base true ≡ Good
+  dmr-valid : ValidDmr s → dmrRule s base true ≡ Valid
   unfolding dmrRule
-  dmr-good g =
+  dmr-valid g =
       pass _ _ 85 1 _ _ _ (omega arith) refl
       (pass _ _ 86 1 _ _ _ (omega arith) (g .slot)
       (pass _ _ 87 2 _ _ _ (omega arith) refl
       (field-passes _ _ 89 1 _ _ (omega arith) (eq-eqb _ _ (g .pad)))))
 
-  m17-good : GoodM17 s → m17Rule s base true ≡ Good
+  m17-valid : ValidM17 s → m17Rule s base true ≡ Valid
   unfolding m17Rule
-  m17-good g =
+  m17-valid g =
       pass _ _ 85 1 _ _ _ (omega arith) refl
       (pass _ _ 86 1 _ _ _ (omega arith) (and-both _ _ (g .operation) (g .encryption))
       (pass _ _ 87 1 _ _ _ (omega arith) (le-leb _ _ (g .position))
       (field-passes _ _ 88 2 _ _ (omega arith) refl)))
 
-  module _ (g : GoodChannel s) where
-    head-good : headRule s base ≡ Good
+  module _ (g : ValidChannel s) where
+    head-valid : headRule s base ≡ Valid
     unfolding headRule modeOk
-    head-good =
+    head-valid =
         pass _ _ 0 1 _ _ _ (omega arith) (le-leb _ _ (g .mode))
         (pass _ _ 1 1 _ _ _ (omega arith) (g .traits)
         (pass _ _ 2 1 _ _ _ (omega arith) refl
@@ -296,15 +297,15 @@ module _ (s : List ℕ) (base : ℕ) (l : 90 ≤ length s) where
         (pass _ _ 11 1 _ _ _ (omega arith) (le-leb _ _ (g .scan))
         (field-passes _ _ 12 1 _ _ (omega arith) (le-leb _ _ (g .group))))))))
 
-    texts-good : textsRule s base ≡ Good
+    texts-valid : textsRule s base ≡ Valid
     unfolding textsRule
-    texts-good =
+    texts-valid =
         pass _ _ 13 32 _ _ _ (omega arith) (g .name)
         (field-passes _ _ 45 32 _ _ (omega arith) (g .description))
 
-    location-good : locationRule s base ≡ Good
+    location-valid : locationRule s base ≡ Valid
     unfolding locationRule
-    location-good =
+    location-valid =
         pass _ _ 77 1 _ _ _ (omega arith) (g .latitude)
         (pass _ _ 78 2 _ _ _ (omega arith) (g .latitude-fraction)
         (pass _ _ 80 1 _ _ _ (omega arith) refl
@@ -312,21 +313,104 @@ module _ (s : List ℕ) (base : ℕ) (l : 90 ≤ length s) where
         (field-passes _ _ 83 2 _ _ (omega arith) refl))))
 
     -- of FM whatever `named` is
-    info-good : (named : Bool) → (1 ≤ getD s 0 0 → named ≡ true) → infoRule s base named ≡ Good
-    info-good named n =
-        by-mode (infoRule s base named ≡ Good) (getD s 0 0)
-        (λ e. info-fm s base named e ∙ fm-good (g .fm e))
-        (λ e. info-dmr s base named e ∙ rw (n (omega arith)) (dmr-good (g .dmr e)))
-        (λ e. info-m17 s base named e ∙ rw (n (omega arith)) (m17-good (g .m17 (omega (arith, g .mode)))))
+    info-valid : (named : Bool) → (1 ≤ getD s 0 0 → named ≡ true) → infoRule s base named ≡ Valid
+    info-valid named n =
+        by-mode (infoRule s base named ≡ Valid) (getD s 0 0)
+        (λ e. info-fm s base named e ∙ fm-valid (g .fm e))
+        (λ e. info-dmr s base named e ∙ rw (n (omega arith)) (dmr-valid (g .dmr e)))
+        (λ e. info-m17 s base named e ∙ rw (n (omega arith)) (m17-valid (g .m17 (omega (arith, g .mode)))))
 
 -- an FM record needs no contact that is named
-pub channel-good-by : (s : List ℕ) (base : ℕ) (named : Bool) → GoodChannel s → 90 ≤ length s → (1 ≤ getD s 0 0 → named ≡ true)
-    → channelRule s base named ≡ Good
+pub channel-valid-by : (s : List ℕ) (base : ℕ) (named : Bool) → ValidChannel s → 90 ≤ length s → (1 ≤ getD s 0 0 → named ≡ true)
+    → channelRule s base named ≡ Valid
 unfolding channelRule
-channel-good-by s base named g l n =
-    both-good _ _ (head-good s base l g)
-    (both-good _ _ (texts-good s base l g)
-    (both-good _ _ (location-good s base l g) (info-good s base l g named n)))
+channel-valid-by s base named g l n =
+    both-valid _ _ (head-valid s base l g)
+    (both-valid _ _ (texts-valid s base l g)
+    (both-valid _ _ (location-valid s base l g) (info-valid s base l g named n)))
 
-pub channel-good : (s : List ℕ) (base : ℕ) (named : Bool) → GoodChannel s → 90 ≤ length s → named ≡ true → channelRule s base named ≡ Good
-channel-good s base named g l n = channel-good-by s base named g l (λ _. n)
+pub channel-valid : (s : List ℕ) (base : ℕ) (named : Bool) → ValidChannel s → 90 ≤ length s → named ≡ true → channelRule s base named ≡ Valid
+channel-valid s base named g l n = channel-valid-by s base named g l (λ _. n)
+
+-- ---- the contact that a record names
+
+module _ (s : List ℕ) where
+  pub dmr-named : getD s 0 0 ≡ 1 → 89 ≤ length s → namedContact s ≡ contactIndexOf (num s 87 2)
+  unfolding namedContact
+  dmr-named e l = rw (eq-eqb (getD s 0 0) 1 e, le-leb 89 (length s) l)
+
+  pub m17-named : getD s 0 0 ≡ 2 → 90 ≤ length s → namedContact s ≡ contactIndexOf (num s 88 2)
+  unfolding namedContact
+  m17-named e l = rw (ne-eqb (getD s 0 0) 1 (omega arith), eq-eqb (getD s 0 0) 2 e, le-leb 90 (length s) l)
+
+  pub fm-names-none : getD s 0 0 ≡ 0 → namedContact s ≡ Nobody
+  unfolding namedContact
+  fm-names-none e = rw (ne-eqb (getD s 0 0) 1 (omega arith), ne-eqb (getD s 0 0) 2 (omega arith))
+
+  pub no-mode-names-none : 2 < getD s 0 0 → namedContact s ≡ Nobody
+  unfolding namedContact
+  no-mode-names-none e = rw (ne-eqb (getD s 0 0) 1 (omega arith), ne-eqb (getD s 0 0) 2 (omega arith))
+
+  -- a record that ends inside its contact index or before it
+  pub cut-names-none : length s < 89 → namedContact s ≡ Nobody
+  unfolding namedContact
+  cut-names-none l = rw (lt-leb 89 (length s) l, lt-leb 90 (length s) (omega arith)) (by (eqb (getD s 0 0) 1) (eqb (getD s 0 0) 2))
+    where
+      by : (a b : Bool) → cond a Nobody (cond b Nobody Nobody) ≡ Nobody
+      by true b = refl
+      by false true = refl
+      by false false = refl
+
+  pub cut-m17-names-none : getD s 0 0 ≡ 2 → length s < 90 → namedContact s ≡ Nobody
+  unfolding namedContact
+  cut-m17-names-none e l = rw (ne-eqb (getD s 0 0) 1 (omega arith), eq-eqb (getD s 0 0) 2 e, lt-leb 90 (length s) l)
+
+-- ---- whether the index names a contact is asked of a DMR or M17 record that holds its index whole, and of no other
+
+refused-first : (left base k n number : ℕ) (u v w : Validity)
+    → (fieldOf left base k n number false then u) then v ≡ (fieldOf left base k n number false then u) then w
+unfolding fieldOf unless _then_
+refused-first left base k n number u v w = by (leb (k + n) left)
+  where
+    by : (t : Bool)
+        → ((cond t (Refused number (base + k)) (Refused 2 (base + k)) then u) then v)
+        ≡ ((cond t (Refused number (base + k)) (Refused 2 (base + k)) then u) then w)
+    by true = refl
+    by false = refl
+
+mode-refused : (s : List ℕ) (base : ℕ) → leb (getD s 0 0) 2 ≡ false → (v w : Validity) → headRule s base then v ≡ headRule s base then w
+unfolding headRule modeOk
+mode-refused s base e v w = rw e (refused-first (length s) base 0 1 6 _ v w)
+
+module _ (s : List ℕ) (base : ℕ) (a b : Bool) where
+  index-asked : (k : ℕ) → (k + 2 ≤ length s → a ≡ b) → field s base k 2 9 a ≡ field s base k 2 9 b
+  index-asked k h = by (leb (k + 2) (length s)) refl
+    where
+      by : (t : Bool) → leb (k + 2) (length s) ≡ t → field s base k 2 9 a ≡ field s base k 2 9 b
+      by true e = rw (h (leb-true (k + 2) (length s) e))
+      by false e =
+          let l : length s < k + 2 = leb-false (k + 2) (length s) e in
+          field-cut (length s) base k 2 9 a l ∙ sym (field-cut (length s) base k 2 9 b l)
+
+  module _ (d : getD s 0 0 ≡ 1 → 89 ≤ length s → a ≡ b) (m : getD s 0 0 ≡ 2 → 90 ≤ length s → a ≡ b) where
+    dmr-asked : getD s 0 0 ≡ 1 → dmrRule s base a ≡ dmrRule s base b
+    unfolding dmrRule
+    dmr-asked e = rw (index-asked 87 (d e))
+
+    m17-asked : getD s 0 0 ≡ 2 → m17Rule s base a ≡ m17Rule s base b
+    unfolding m17Rule
+    m17-asked e = rw (index-asked 88 (m e))
+
+    pub named-unread : channelRule s base a ≡ channelRule s base b
+    unfolding channelRule
+    named-unread =
+        by-mode (channelRule s base a ≡ channelRule s base b) (getD s 0 0)
+        (λ e. rw (info-fm s base a e, info-fm s base b e))
+        (λ e. rw (info-dmr s base a e, info-dmr s base b e, dmr-asked e))
+        (λ l. above (leb (getD s 0 0) 2) refl l)
+      where
+        above : (t : Bool) → leb (getD s 0 0) 2 ≡ t → 2 ≤ getD s 0 0 → channelRule s base a ≡ channelRule s base b
+        above true e l =
+            let h = leb-true (getD s 0 0) 2 e in
+            rw (info-m17 s base a l, info-m17 s base b l, m17-asked (omega arith))
+        above false e l = mode-refused s base e _ _

@@ -3,15 +3,15 @@ use Prim.Native.Nat.{ℕ}
 use mathlib.Core.Bool.{Bool, false, _&&_, _||_, not, cond}
 use lib.Dec.{leb, eqb}
 use lib.IntN.{ℤ, pos, negsuc}
-use Rattle.bits.specs.Packed.{choiceOf}
-use Rattle.bits.specs.declared.Choice.{Choice}
+use Rattle.bits.specs.Packed.{numberFlagOf}
+use Rattle.bits.specs.declared.NumberFlag.{NumberFlag}
 use Rattle.channel.specs.declared.Traits.{Traits}
 use Rattle.channel.specs.declared.Info.{Info}
 use Rattle.channel.specs.declared.Info.the-variants.{Fm, Dmr, M17}
 use Rattle.channel.specs.declared.ContactIndex.{ContactIndex}
 use Rattle.channel.specs.declared.ContactIndex.the-variants as contact
 
--- ---- values and their rules: `..Ok` speaks of what a file holds, `..Good` and `..Given` of a value that a writer is given
+-- ---- values and their rules: `..Ok` speaks of what a file holds, `..Valid` and `..Given` of a value that a writer is given
 
 -- 0 FM, 1 DMR, 2 M17
 unfoldable pub modeOk : ℕ → Bool
@@ -19,10 +19,10 @@ modeOk m = leb m 2
 
 -- traits: bandwidth in bits 7 and 6 (0 to 2), receive-only in bit 5, the rest zero
 unfoldable pub traitsOf : ℕ → Traits
-traitsOf b = record { bandwidth = choiceOf b .number; «receive_only» = choiceOf b .flag }
+traitsOf b = record { bandwidth = numberFlagOf b .number; «receive_only» = numberFlagOf b .flag }
 
-unfoldable pub traitsChoice : Traits → Choice
-traitsChoice t = record { number = t .bandwidth; flag = t .«receive_only» }
+unfoldable pub traitsNumberFlag : Traits → NumberFlag
+traitsNumberFlag t = record { number = t .bandwidth; flag = t .«receive_only» }
 
 -- scan list 0 to 250, group list 0 to 128
 abbrev pub scanListOk : ℕ → Bool

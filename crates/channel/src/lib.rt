@@ -1,7 +1,7 @@
 // Channel records of 90 bytes: their types and single values (document 01, "The file").
 pub mod values; // values.rt: the rules of single values
 
-use bits::Halves;
+use bits::Nibbles;
 use tones::Tone;
 
 pub const FM: u8 = 0;
@@ -17,7 +17,7 @@ pub const MEDIUM: u8 = 1;
 
 pub const WIDE: u8 = 2;
 
-// Laid out as in C, for include/codeplug.h: so are Location and Common.
+// Laid out as in C, for bindings/c/include/codeplug.h: so are Location and Common.
 #[repr(C)]
 pub struct Traits {
     pub bandwidth: u8,
@@ -57,16 +57,16 @@ pub struct FmInfo {
     pub transmit: Tone,
 }
 
-// Colour codes: receive in the high half.
+// Colour codes: receive in the high nibble.
 pub struct DmrInfo {
-    pub colours: Halves,
+    pub colours: Nibbles,
     pub slot: u8,
     pub contact: ContactIndex,
 }
 
-// Channel access numbers: receive in the high half. Operation: 1 voice, 2 data, 3 both. Encryption: 0 plain, 1 AES-256, 2 scrambler.
+// Channel access numbers: receive in the high nibble. Operation: 1 voice, 2 data, 3 both. Encryption: 0 plain, 1 AES-256, 2 scrambler.
 pub struct M17Info {
-    pub access: Halves,
+    pub access: Nibbles,
     pub operation: u8,
     pub encryption: u8,
     pub position: bool,

@@ -1,7 +1,7 @@
 // The rules of single values of a channel.
 use crate::ContactIndex;
 use crate::Traits;
-use bits::Choice;
+use bits::NumberFlag;
 use fields::numbers::byte_at;
 use fields::numbers::le16;
 use format::sizes::DMR_CONTACT_AT;
@@ -10,23 +10,23 @@ ghost use mathlib.Core.Path.{_≡_};
 ghost use mathlib.Core.Bool.{_&&_};
 ghost use Prim.Native.Nat.{_≤_};
 ghost use Rattle.bits.specs.Packed.{signedOf};
-ghost use Rattle.channel.specs.Rule.{namedContact};
-ghost use Rattle.channel.specs.Values.{traitsOf, traitsChoice, latitudeOk, latitudeFractionOk, fractionOk, slotOk, operationOk, encryptionOk, contactIndexPlace, contactIndexOf, contactIndexNumber};
+ghost use Rattle.channel.specs.Rule.{indexAt, namedContact};
+ghost use Rattle.channel.specs.Values.{traitsOf, traitsNumberFlag, latitudeOk, latitudeFractionOk, fractionOk, slotOk, operationOk, encryptionOk, contactIndexPlace, contactIndexOf, contactIndexNumber};
 
 pub fn traits_of(b: u8) -> Traits
     ensures { λ r. ⌜ r ≡ traitsOf b ⌝ }
 {
-    let c = bits::choice_of(b);
+    let c = bits::number_flag_of(b);
     Traits {
         bandwidth: c.number,
         receive_only: c.flag,
     }
 }
 
-pub fn traits_choice(t: Traits) -> Choice
-    ensures { λ r. ⌜ r ≡ traitsChoice t ⌝ }
+pub fn traits_number_flag(t: Traits) -> NumberFlag
+    ensures { λ r. ⌜ r ≡ traitsNumberFlag t ⌝ }
 {
-    Choice {
+    NumberFlag {
         number: t.bandwidth,
         flag: t.receive_only,
     }
@@ -95,16 +95,27 @@ pub fn contact_index_number(c: ContactIndex) -> u16
     }
 }
 
-// The contact index of a DMR or M17 channel; an FM channel has none.
+// The index at k of a channel; nobody where its two bytes are not all there.
+fn index_at(s: &[u8], k: usize) -> ContactIndex
+    requires { ⌜ k ≤ 88 ⌝ }
+    ensures { λ r. ⌜ r ≡ indexAt (now (s .entry)) k ⌝ }
+{
+    if s.len() < k + 2 {
+        return ContactIndex::Nobody;
+    }
+    contact_index_of(le16(s, k))
+}
+
+// The contact index of a DMR or M17 channel, where the record holds it whole; any other record has none.
 pub fn named_contact(s: &[u8]) -> ContactIndex
     ensures { λ r. ⌜ r ≡ namedContact (now (s .entry)) ⌝ }
 {
     let m = byte_at(s, 0);
-    if m == crate::FM {
-        return ContactIndex::Nobody;
-    }
     if m == crate::DMR {
-        return contact_index_of(le16(s, DMR_CONTACT_AT));
+        return index_at(s, DMR_CONTACT_AT);
     }
-    contact_index_of(le16(s, M17_CONTACT_AT))
+    if m == crate::M17 {
+        return index_at(s, M17_CONTACT_AT);
+    }
+    ContactIndex::Nobody
 }

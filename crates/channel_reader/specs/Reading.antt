@@ -1,4 +1,4 @@
--- A channel's value, read from a good record (document 01, "The file"): its common fields with one of three kinds of info.
+-- A channel's value, read from a valid record (document 01, "The file"): its common fields with one of three kinds of info.
 use Prim.Native.Nat.{ℕ}
 use mathlib.Core.Bool.{true, cond}
 use mathlib.Core.List.{List}
@@ -6,9 +6,9 @@ use lib.ListN.{getD}
 use lib.Dec.{eqb}
 use lib.IntN.{pos}
 use Rattle.fields.specs.Bytes.{part, num, zeros}
-use Rattle.fields.specs.declared.rule.Verdict.{Verdict}
-use Rattle.fields.specs.declared.rule.Verdict.the-variants.{Good, Refused}
-use Rattle.bits.specs.Packed.{halvesOf, signedOf}
+use Rattle.fields.specs.declared.rule.Validity.{Validity}
+use Rattle.fields.specs.declared.rule.Validity.the-variants.{Valid, Refused}
+use Rattle.bits.specs.Packed.{nibblesOf, signedOf}
 use Rattle.tones.specs.Tone.{toneOf}
 use Rattle.tones.specs.declared.Tone.the-variants.{Disabled}
 use Rattle.channel.specs.declared.Location.{Location}
@@ -23,7 +23,7 @@ use Rattle.channel.specs.declared.Channel.{Channel}
 use Rattle.channel_reader.specs.declared.ChannelRead.{ChannelRead}
 use Rattle.channel.specs.Values.{traitsOf, dmrContactAt, m17ContactAt, contactIndexOf}
 
--- ---- a good record's value
+-- ---- a valid record's value
 
 unfoldable pub locationOf : List ℕ → Location
 locationOf s =
@@ -51,14 +51,14 @@ unfoldable pub fmOf : List ℕ → FmInfo
 fmOf s = record { receive = toneOf (getD s 85 0); transmit = toneOf (getD s 86 0) }
 
 unfoldable pub dmrOf : List ℕ → DmrInfo
-dmrOf s = record { colours = halvesOf (getD s 85 0); slot = getD s 86 0; contact = contactIndexOf (num s dmrContactAt 2) }
+dmrOf s = record { colours = nibblesOf (getD s 85 0); slot = getD s 86 0; contact = contactIndexOf (num s dmrContactAt 2) }
 
 unfoldable pub m17Of : List ℕ → M17Info
 m17Of s =
     record {
-      access = halvesOf (getD s 85 0);
-      operation = halvesOf (getD s 86 0) .high;
-      encryption = halvesOf (getD s 86 0) .low;
+      access = nibblesOf (getD s 85 0);
+      operation = nibblesOf (getD s 86 0) .high;
+      encryption = nibblesOf (getD s 86 0) .low;
       position = eqb (getD s 87 0) 1;
       contact = contactIndexOf (num s m17ContactAt 2);
     }
@@ -87,7 +87,7 @@ blankChannel =
       info = Fm (record { receive = Disabled 0; transmit = Disabled 0 });
     }
 
--- the answer of a reader: the verdict, and the record's value where it is good
-unfoldable pub channelAnswer : Verdict → List ℕ → ChannelRead
-channelAnswer Good s = record { verdict = Good; channel = channelOf s }
-channelAnswer (Refused n p) s = record { verdict = Refused n p; channel = blankChannel }
+-- the answer of a reader: the validity, and the record's value where it is valid
+unfoldable pub channelAnswer : Validity → List ℕ → ChannelRead
+channelAnswer Valid s = record { validity = Valid; channel = channelOf s }
+channelAnswer (Refused n p) s = record { validity = Refused n p; channel = blankChannel }

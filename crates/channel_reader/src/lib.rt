@@ -1,5 +1,5 @@
 // A channel's bytes to its value.
-use bits::halves_of;
+use bits::nibbles_of;
 use bits::signed_of;
 use channel::Channel;
 use channel::Common;
@@ -11,12 +11,12 @@ use channel::M17Info;
 use channel::Traits;
 use channel::values::contact_index_of;
 use channel::values::traits_of;
-use channel_validation::judge::judge;
+use channel_validation::validate;
 use fields::numbers::byte_at;
 use fields::numbers::le16;
 use fields::numbers::le32;
 use fields::put::bytes32;
-use fields::rule::Verdict;
+use fields::rule::Validity;
 use format::sizes::DMR_CONTACT_AT;
 use format::sizes::M17_CONTACT_AT;
 use tones::Tone;
@@ -30,7 +30,7 @@ ghost use Rattle.channel_reader.specs.Reading.{locationOf, commonOf, fmO
 
 // A reader's answer. Beside a refusal stands a blank channel.
 pub struct ChannelRead {
-    pub verdict: Verdict,
+    pub validity: Validity,
     pub channel: Channel,
 }
 
@@ -46,7 +46,7 @@ fn location_of(s: &[u8]) -> Location
     }
 }
 
-// What a good record's bytes say of any mode, but for the texts.
+// What a valid record's bytes say of any mode, but for the texts.
 pub fn common_of(s: &[u8]) -> Common
     ensures { λ r. ⌜ r ≡ commonOf (now (s .entry)) ⌝ }
 {
@@ -77,7 +77,7 @@ pub fn dmr_of(s: &[u8]) -> DmrInfo
     ensures { λ r. ⌜ r ≡ dmrOf (now (s .entry)) ⌝ }
 {
     DmrInfo {
-        colours: halves_of(byte_at(s, 85)),
+        colours: nibbles_of(byte_at(s, 85)),
         slot: byte_at(s, 86),
         contact: contact_index_of(le16(s, DMR_CONTACT_AT)),
     }
@@ -86,8 +86,8 @@ pub fn dmr_of(s: &[u8]) -> DmrInfo
 pub fn m17_of(s: &[u8]) -> M17Info
     ensures { λ r. ⌜ r ≡ m17Of (now (s .entry)) ⌝ }
 {
-    let access = halves_of(byte_at(s, 85));
-    let h = halves_of(byte_at(s, 86));
+    let access = nibbles_of(byte_at(s, 85));
+    let h = nibbles_of(byte_at(s, 86));
     let contact = contact_index_of(le16(s, M17_CONTACT_AT));
     M17Info {
         access,
@@ -160,18 +160,18 @@ pub fn blank() -> Channel
     }
 }
 
-// The answer for a verdict on a record's bytes; a good verdict comes only with all 90 of them.
-pub fn answer(verdict: Verdict, s: &[u8]) -> ChannelRead
-    requires { ⌜ (verdict ≡ Verdict.Good → 90 ≤ length (now s)) ⌝ }
-    ensures { λ r. ⌜ r ≡ channelAnswer verdict (now (s .entry)) ⌝ }
+// The answer for a validity on a record's bytes; `Valid` comes only with all 90 of them.
+pub fn answer(validity: Validity, s: &[u8]) -> ChannelRead
+    requires { ⌜ (validity ≡ Validity.Valid → 90 ≤ length (now s)) ⌝ }
+    ensures { λ r. ⌜ r ≡ channelAnswer validity (now (s .entry)) ⌝ }
 {
-    match verdict {
-        Verdict::Good => ChannelRead {
-            verdict: Verdict::Good,
+    match validity {
+        Validity::Valid => ChannelRead {
+            validity: Validity::Valid,
             channel: channel_of(s),
         },
-        Verdict::Refused(n, p) => ChannelRead {
-            verdict: Verdict::Refused(n, p),
+        Validity::Refused(n, p) => ChannelRead {
+            validity: Validity::Refused(n, p),
             channel: blank(),
         },
     }
@@ -182,5 +182,5 @@ pub fn answer(verdict: Verdict, s: &[u8]) -> ChannelRead
 pub fn read(s: &[u8]) -> ChannelRead
     ensures { λ r. ⌜ r ≡ channelAnswer (channelRule (now (s .entry)) 0 true) (now (s .entry)) ⌝ }
 {
-    answer(judge(s, 0, true), s)
+    answer(validate(s, 0, true), s)
 }

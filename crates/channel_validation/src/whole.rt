@@ -1,4 +1,4 @@
-// Whether a whole channel is good: what `judge` answers, but for number and place. Nothing branches on the record's bytes, so that
+// Whether a whole channel is valid: what `validate` answers, but for number and place. Nothing branches on the record's bytes, so that
 // bytes which the processor has not learnt cost no more than others.
 use channel::values::fraction_ok;
 use channel::values::latitude_fraction_ok;
@@ -12,26 +12,26 @@ use tones::tone_ok;
 ghost use mathlib.Core.Path.{_≡_};
 ghost use Prim.Native.Nat.{ℕ};
 ghost use lib.ListN.{length};
-ghost use Rattle.fields.specs.Rule.{isGood};
+ghost use Rattle.fields.specs.Rule.{isValid};
 ghost use Rattle.channel.specs.Rule.{headRule, textsRule, locationRule, fmRule, dmrRule, m17Rule, infoRule, channelRule};
 
-fn head_good(s: &[u8]) -> bool
+fn head_valid(s: &[u8]) -> bool
     requires { ⌜ length (now s) ≡ 90 ⌝ }
-    ensures { λ r. ⌜ ((base : ℕ) → r ≡ isGood (headRule (now (s .entry)) base)) ⌝ }
+    ensures { λ r. ⌜ ((base : ℕ) → r ≡ isValid (headRule (now (s .entry)) base)) ⌝ }
 {
-    (s[0] <= 2) & (bits::choice_ok(s[1]) & ((s[11] <= 250) & (s[12] <= 128)))
+    (s[0] <= 2) & (bits::number_flag_ok(s[1]) & ((s[11] <= 250) & (s[12] <= 128)))
 }
 
-fn texts_good(s: &[u8]) -> bool
+fn texts_valid(s: &[u8]) -> bool
     requires { ⌜ length (now s) ≡ 90 ⌝ }
-    ensures { λ r. ⌜ ((base : ℕ) → r ≡ isGood (textsRule (now (s .entry)) base)) ⌝ }
+    ensures { λ r. ⌜ ((base : ℕ) → r ≡ isValid (textsRule (now (s .entry)) base)) ⌝ }
 {
     text_ok(&s[13..45]) & text_ok(&s[45..77])
 }
 
-fn location_good(s: &[u8]) -> bool
+fn location_valid(s: &[u8]) -> bool
     requires { ⌜ length (now s) ≡ 90 ⌝ }
-    ensures { λ r. ⌜ ((base : ℕ) → r ≡ isGood (locationRule (now (s .entry)) base)) ⌝ }
+    ensures { λ r. ⌜ ((base : ℕ) → r ≡ isValid (locationRule (now (s .entry)) base)) ⌝ }
 {
     let floor = s[77];
     let above = latitude_fraction_ok(floor, le16(s, 78));
@@ -39,45 +39,49 @@ fn location_good(s: &[u8]) -> bool
     latitude_ok(floor) & (above & beyond)
 }
 
-fn fm_good(s: &[u8]) -> bool
+fn fm_valid(s: &[u8]) -> bool
     requires { ⌜ length (now s) ≡ 90 ⌝ }
-    ensures { λ r. ⌜ ((base : ℕ) → r ≡ isGood (fmRule (now (s .entry)) base)) ⌝ }
+    ensures { λ r. ⌜ ((base : ℕ) → r ≡ isValid (fmRule (now (s .entry)) base)) ⌝ }
 {
     let pads = (s[87] == 0) & ((s[88] == 0) & (s[89] == 0));
     tone_ok(s[85]) & (tone_ok(s[86]) & pads)
 }
 
-fn dmr_good(s: &[u8], named: bool) -> bool
+fn dmr_valid(s: &[u8], named: bool) -> bool
     requires { ⌜ length (now s) ≡ 90 ⌝ }
-    ensures { λ r. ⌜ ((base : ℕ) → r ≡ isGood (dmrRule (now (s .entry)) base named)) ⌝ }
+    ensures { λ r. ⌜ ((base : ℕ) → r ≡ isValid (dmrRule (now (s .entry)) base named)) ⌝ }
 {
     slot_ok(s[86]) & (named & (s[89] == 0))
 }
 
-fn m17_good(s: &[u8], named: bool) -> bool
+fn m17_valid(s: &[u8], named: bool) -> bool
     requires { ⌜ length (now s) ≡ 90 ⌝ }
-    ensures { λ r. ⌜ ((base : ℕ) → r ≡ isGood (m17Rule (now (s .entry)) base named)) ⌝ }
+    ensures { λ r. ⌜ ((base : ℕ) → r ≡ isValid (m17Rule (now (s .entry)) base named)) ⌝ }
 {
-    let h = bits::halves_of(s[86]);
+    let h = bits::nibbles_of(s[86]);
     operation_ok(h.high, h.low) & ((s[87] <= 1) & named)
 }
 
-// All three modes are judged, and the channel's own is picked.
-fn info_good(s: &[u8], named: bool) -> bool
+// All three modes are validated, and the channel's own is picked.
+fn info_valid(s: &[u8], named: bool) -> bool
     requires { ⌜ length (now s) ≡ 90 ⌝ }
-    ensures { λ r. ⌜ ((base : ℕ) → r ≡ isGood (infoRule (now (s .entry)) base named)) ⌝ }
+    ensures { λ r. ⌜ ((base : ℕ) → r ≡ isValid (infoRule (now (s .entry)) base named)) ⌝ }
 {
-    let digital = pick(s[0] == channel::DMR, dmr_good(s, named), m17_good(s, named));
-    pick(s[0] == channel::FM, fm_good(s), digital)
+    let digital = pick(
+        s[0] == channel::DMR,
+        dmr_valid(s, named),
+        m17_valid(s, named),
+    );
+    pick(s[0] == channel::FM, fm_valid(s), digital)
 }
 
 // Of a channel's 90 bytes. Whether its contact index names a contact of the file comes in as `named`.
-pub fn good(s: &[u8], named: bool) -> bool
+pub fn is_valid(s: &[u8], named: bool) -> bool
     requires { ⌜ length (now s) ≡ 90 ⌝ }
-    ensures { λ r. ⌜ ((base : ℕ) → r ≡ isGood (channelRule (now (s .entry)) base named)) ⌝ }
+    ensures { λ r. ⌜ ((base : ℕ) → r ≡ isValid (channelRule (now (s .entry)) base named)) ⌝ }
 {
-    let head = head_good(s);
-    let texts = texts_good(s);
-    let location = location_good(s);
-    head & (texts & (location & info_good(s, named)))
+    let head = head_valid(s);
+    let texts = texts_valid(s);
+    let location = location_valid(s);
+    head & (texts & (location & info_valid(s, named)))
 }

@@ -1,4 +1,4 @@
--- What is written reads back as what was given, what was read writes back as the bytes read, and a writer refuses exactly what no good
+-- What is written reads back as what was given, what was read writes back as the bytes read, and a writer refuses exactly what no valid
 -- record holds. Carried by where each field stands in the written bytes, and by the laws of bytes that hold one value or two.
 -- Assumes nothing.
 use Prim.Native.Nat.{ℕ, zero, suc, _+_, _-_, _^_, _≤_, _<_}
@@ -16,20 +16,20 @@ use mir.Val.{SFits}
 use borrow.Author.Tests.{leb-true, le-leb, eqb-true, eq-eqb, ne-eqb}
 use Rattle.fields.specs.Bytes.{part, littleBytes, num}
 use Rattle.text.specs.Text.{textOk, givenOk, textOf, padded}
-use Rattle.fields.specs.declared.rule.Verdict.the-variants.{Good}
+use Rattle.fields.specs.declared.rule.Validity.the-variants.{Valid}
 use Rattle.fields.proofs.Laws.{bytes-nil, bytes-cons, bytes-append, bytes-zeros, bytes-littleBytes}
 use Rattle.fields.proofs.Laws.{AllBytes, Long, long-append, length-part, part-at, part-cons, part-add, little-littleBytes, littleBytes-num, num-lt}
 use Rattle.text.proofs.Laws.{givenOk-length, givenOk-plain, plainText-bytes, textOk-padded, textOf-padded, given-textOf, padded-textOf}
-use Rattle.bits.specs.Packed.{choiceOf, choiceByte, choiceGood, halvesOf, halvesByte, signedOf, signedByte}
-use Rattle.bits.proofs.Laws.{i8Range, i8Range-fits, fits-i8Range, signedOf-range, signed-returns, choice-returns, choice-ok, halves-returns, and-left, and-right, and-both}
-use Rattle.bits.proofs.Laws.{choiceByte-lt, halvesByte-lt, signedByte-lt, choiceByte-of, choiceGood-of, halvesByte-of, halvesGood-of, signedByte-of}
+use Rattle.bits.specs.Packed.{numberFlagOf, numberFlagByte, numberFlagValid, nibblesOf, nibblesByte, signedOf, signedByte}
+use Rattle.bits.proofs.Laws.{i8Range, i8Range-fits, fits-i8Range, signedOf-range, signed-returns, number-flag-returns, number-flag-ok, nibbles-returns, and-left, and-right, and-both}
+use Rattle.bits.proofs.Laws.{numberFlagByte-lt, nibblesByte-lt, signedByte-lt, numberFlagByte-of, numberFlagValid-of, nibblesByte-of, nibblesValid-of, signedByte-of}
 use Rattle.tones.specs.Tone.{toneByte}
-use Rattle.tones.proofs.Laws.{tone-returns, toneOk-byte, toneByte-of, toneGood-of, toneByte-lt}
+use Rattle.tones.proofs.Laws.{tone-returns, toneOk-byte, toneByte-of, toneValid-of, toneByte-lt}
 use Rattle.channel.specs.Values.{slotOk, operationOk, encryptionOk}
-use Rattle.channel.specs.Values.{traitsOf, traitsChoice, latitudeOk, isNinety, fractionOk, latitudeFractionOk, contactIndexOf, contactIndexNumber}
+use Rattle.channel.specs.Values.{traitsOf, traitsNumberFlag, latitudeOk, isNinety, fractionOk, latitudeFractionOk, contactIndexOf, contactIndexNumber}
 use Rattle.channel.specs.Rule.{channelRule}
 use Rattle.channel_reader.specs.Reading.{locationOf, commonOf, fmOf, dmrOf, m17Of, infoOf, channelOf}
-use Rattle.channel_writer.specs.Writing.{infoGiven, channelGiven, headBytes, locationBytes, infoBytes, channelBytes}
+use Rattle.channel_writer.specs.Writing.{infoWriteRule, channelWriteRule, headBytes, locationBytes, infoBytes, channelBytes}
 use Rattle.channel.specs.Values.{modeNumber}
 use Rattle.channel.specs.declared.Traits.{Traits}
 use Rattle.channel.specs.declared.Common.{Common}
@@ -41,9 +41,9 @@ use Rattle.channel.specs.declared.M17Info.{M17Info}
 use Rattle.channel.specs.declared.Info.{Info}
 use Rattle.channel.specs.declared.Info.the-variants.{Fm, Dmr, M17}
 use Rattle.channel.specs.declared.Channel.{Channel}
-use Rattle.channel.proofs.Laws.{GoodChannel, GoodFm, GoodDmr, GoodM17, channel-good, good-channel, good-length, by-mode}
-use Rattle.channel_writer.proofs.WriteLaws.{Given, GivenHead, GivenLocation, GivenFm, GivenDmr, GivenM17, given-told, given-passes}
-use Rattle.channel_writer.proofs.WriteLaws.{head-told, location-told, fm-told, dmr-told, m17-told, use-halves}
+use Rattle.channel.proofs.Laws.{ValidChannel, ValidFm, ValidDmr, ValidM17, channel-valid, valid-channel, valid-length, by-mode}
+use Rattle.channel_writer.proofs.WriteLaws.{Writable, WritableHead, WritableLocation, WritableFm, WritableDmr, WritableM17, writable-by, rule-passes}
+use Rattle.channel_writer.proofs.WriteLaws.{head-writable, location-writable, fm-writable, dmr-writable, m17-writable, use-nibbles}
 use Rattle.channel_writer.proofs.WriteLaws.{head-passes, location-passes, fm-passes, dmr-passes, m17-passes}
 use Rattle.channel_writer.proofs.WriteLaws.{long-head, long-padded, long-record}
 
@@ -90,9 +90,9 @@ latitude-fraction-lt : (z : ℤ) (x : ℕ) → latitudeFractionOk z x ≡ true �
 unfolding latitudeFractionOk
 latitude-fraction-lt z x h = fraction-lt x (and-left (fractionOk x) (not (isNinety z) || eqb x 0) h)
 
-traits-returns : (t : Traits) → choiceGood (traitsChoice t) ≡ true → traitsOf (choiceByte (traitsChoice t)) ≡ t
-unfolding traitsOf traitsChoice
-traits-returns t h = rw (choice-returns (traitsChoice t) h)
+traits-returns : (t : Traits) → numberFlagValid (traitsNumberFlag t) ≡ true → traitsOf (numberFlagByte (traitsNumberFlag t)) ≡ t
+unfolding traitsOf traitsNumberFlag
+traits-returns t h = rw (number-flag-returns (traitsNumberFlag t) h)
 
 contact-returns : (c : ContactIndex) → contactProper c ≡ true → contactIndexOf (contactIndexNumber c) ≡ c
 unfolding contactIndexOf contactIndexNumber contactProper
@@ -113,7 +113,7 @@ module _ (name description : List ℕ) (common : Common) (info : Info) where
   abbrev bytes : List ℕ
   bytes = channelBytes name description common info
 
-  module _ (g : Given name description common info) where
+  module _ (g : Writable name description common info) where
     long-name : Long (padded name) 32
     long-name = long-padded name (givenOk-length name (g .text))
 
@@ -157,7 +157,7 @@ module _ (name description : List ℕ) (common : Common) (info : Info) where
     unfolding channelBytes headBytes littleBytes
     at-mode = refl
 
-    at-traits : getD bytes 1 0 ≡ choiceByte (traitsChoice (common .traits))
+    at-traits : getD bytes 1 0 ≡ numberFlagByte (traitsNumberFlag (common .traits))
     unfolding channelBytes headBytes littleBytes
     at-traits = refl
 
@@ -181,8 +181,8 @@ module _ (name description : List ℕ) (common : Common) (info : Info) where
     unfolding locationBytes littleBytes
     at-longitude = at-byte 3
 
-    place : GivenLocation (common .location)
-    place = location-told (common .location) (g .place)
+    place : WritableLocation (common .location)
+    place = location-writable (common .location) (g .place)
 
     at-latitude-e4 : num bytes 78 2 ≡ common .location .«latitude_e4»
     unfolding locationBytes littleBytes
@@ -212,7 +212,7 @@ module _ (name description : List ℕ) (common : Common) (info : Info) where
       longitude-is = rw at-longitude (signed-returns _ (i8Range-fits _ (r .longitude-i8)))
 
       traits-is : traitsOf (getD bytes 1 0) ≡ common .traits
-      traits-is = rw at-traits (traits-returns (common .traits) (head-told common (g .head) .choice))
+      traits-is = rw at-traits (traits-returns (common .traits) (head-writable common (g .head) .traits))
 
       common-is : commonOf bytes ≡ common
       unfolding commonOf locationOf
@@ -252,24 +252,24 @@ record HoldsFm (s : List ℕ) (i : FmInfo) : Type 0 where
 
 record HoldsDmr (s : List ℕ) (i : DmrInfo) : Type 0 where
   mode : getD s 0 0 ≡ 1
-  colours : getD s 85 0 ≡ halvesByte (i .colours)
+  colours : getD s 85 0 ≡ nibblesByte (i .colours)
   slot : getD s 86 0 ≡ i .slot
   contact : num s 87 2 ≡ contactIndexNumber (i .contact)
   pad : getD s 89 0 ≡ 0
 
 record HoldsM17 (s : List ℕ) (i : M17Info) : Type 0 where
   mode : getD s 0 0 ≡ 2
-  access : getD s 85 0 ≡ halvesByte (i .access)
-  use-of : getD s 86 0 ≡ halvesByte (record { high = i .operation; low = i .encryption })
+  access : getD s 85 0 ≡ nibblesByte (i .access)
+  use-of : getD s 86 0 ≡ nibblesByte (record { high = i .operation; low = i .encryption })
   position : getD s 87 0 ≡ cond (i .position) 1 0
   contact : num s 88 2 ≡ contactIndexNumber (i .contact)
 
-module _ {s : List ℕ} {i : FmInfo} (h : HoldsFm s i) (g : GivenFm i) where
+module _ {s : List ℕ} {i : FmInfo} (h : HoldsFm s i) (g : WritableFm i) where
   fm-is : infoOf s ≡ Fm i
   unfolding infoOf fmOf
   fm-is = rw (h .mode, h .receive, h .transmit, tone-returns _ (g .first), tone-returns _ (g .second))
 
-  fm-rule : GoodFm s
+  fm-rule : ValidFm s
   fm-rule =
       record {
         receive = rw (h .receive) (toneOk-byte _ (g .first));
@@ -279,17 +279,17 @@ module _ {s : List ℕ} {i : FmInfo} (h : HoldsFm s i) (g : GivenFm i) where
         third = h .third;
       }
 
-module _ {s : List ℕ} {i : DmrInfo} (h : HoldsDmr s i) (g : GivenDmr i) where
+module _ {s : List ℕ} {i : DmrInfo} (h : HoldsDmr s i) (g : WritableDmr i) where
   dmr-is : contactProper (i .contact) ≡ true → infoOf s ≡ Dmr i
   unfolding infoOf dmrOf
-  dmr-is p = rw (h .mode, h .colours, h .slot, h .contact, halves-returns _ (g .halves), contact-returns _ p)
+  dmr-is p = rw (h .mode, h .colours, h .slot, h .contact, nibbles-returns _ (g .nibbles), contact-returns _ p)
 
-  dmr-rule : GoodDmr s
+  dmr-rule : ValidDmr s
   dmr-rule = record { slot = rw (h .slot) (g .timeslot); pad = h .pad }
 
-module _ {s : List ℕ} {i : M17Info} (h : HoldsM17 s i) (g : GivenM17 i) where
-  use-is : halvesOf (getD s 86 0) ≡ record { high = i .operation; low = i .encryption }
-  use-is = rw (h .use-of) (halves-returns _ (use-halves i g))
+module _ {s : List ℕ} {i : M17Info} (h : HoldsM17 s i) (g : WritableM17 i) where
+  use-is : nibblesOf (getD s 86 0) ≡ record { high = i .operation; low = i .encryption }
+  use-is = rw (h .use-of) (nibbles-returns _ (use-nibbles i g))
 
   m17-is : contactProper (i .contact) ≡ true → infoOf s ≡ M17 i
   unfolding infoOf m17Of
@@ -300,12 +300,12 @@ module _ {s : List ℕ} {i : M17Info} (h : HoldsM17 s i) (g : GivenM17 i) where
         use-is,
         h .position,
         h .contact,
-        halves-returns _ (g .halves),
+        nibbles-returns _ (g .nibbles),
         flag-returns (i .position),
         contact-returns _ p,
       )
 
-  m17-rule : GoodM17 s
+  m17-rule : ValidM17 s
   m17-rule =
       record {
         operation = rw use-is (and-left _ (encryptionOk (i .encryption)) (g .use-of));
@@ -316,7 +316,7 @@ module _ {s : List ℕ} {i : M17Info} (h : HoldsM17 s i) (g : GivenM17 i) where
 -- ---- the info of the written bytes
 
 module _ (name description : List ℕ) (common : Common) where
-  holds-fm : (i : FmInfo) → Given name description common (Fm i) → HoldsFm (channelBytes name description common (Fm i)) i
+  holds-fm : (i : FmInfo) → Writable name description common (Fm i) → HoldsFm (channelBytes name description common (Fm i)) i
   unfolding modeNumber locationBytes infoBytes littleBytes
   holds-fm i g =
       record {
@@ -328,7 +328,7 @@ module _ (name description : List ℕ) (common : Common) where
         third = at-byte name description common (Fm i) g 12;
       }
 
-  holds-dmr : (i : DmrInfo) → Given name description common (Dmr i) → Ranges common (Dmr i)
+  holds-dmr : (i : DmrInfo) → Writable name description common (Dmr i) → Ranges common (Dmr i)
       → HoldsDmr (channelBytes name description common (Dmr i)) i
   unfolding modeNumber locationBytes infoBytes littleBytes
   holds-dmr i g r =
@@ -340,7 +340,7 @@ module _ (name description : List ℕ) (common : Common) where
         pad = at-byte name description common (Dmr i) g 12;
       }
 
-  holds-m17 : (i : M17Info) → Given name description common (M17 i) → Ranges common (M17 i)
+  holds-m17 : (i : M17Info) → Writable name description common (M17 i) → Ranges common (M17 i)
       → HoldsM17 (channelBytes name description common (M17 i)) i
   unfolding modeNumber locationBytes infoBytes littleBytes
   holds-m17 i g r =
@@ -352,31 +352,31 @@ module _ (name description : List ℕ) (common : Common) where
         contact = at-num name description common (M17 i) g 11 2 ∙ little-littleBytes 2 _ (r .contact-u16);
       }
 
-  info-is : (info : Info) → Given name description common info → Ranges common info → infoOf (channelBytes name description common info) ≡ info
-  info-is (Fm i) g r = fm-is (holds-fm i g) (fm-told i (g .rest))
-  info-is (Dmr i) g r = dmr-is (holds-dmr i g r) (dmr-told i (g .rest)) (r .contact-proper)
-  info-is (M17 i) g r = m17-is (holds-m17 i g r) (m17-told i (g .rest)) (r .contact-proper)
+  info-is : (info : Info) → Writable name description common info → Ranges common info → infoOf (channelBytes name description common info) ≡ info
+  info-is (Fm i) g r = fm-is (holds-fm i g) (fm-writable i (g .rest))
+  info-is (Dmr i) g r = dmr-is (holds-dmr i g r) (dmr-writable i (g .rest)) (r .contact-proper)
+  info-is (M17 i) g r = m17-is (holds-m17 i g r) (m17-writable i (g .rest)) (r .contact-proper)
 
   -- the rule of the mode that the bytes have; the other modes they have not
-  fm-part : (info : Info) → Given name description common info → modeNumber info ≡ 0 → GoodFm (channelBytes name description common info)
+  fm-part : (info : Info) → Writable name description common info → modeNumber info ≡ 0 → ValidFm (channelBytes name description common info)
   unfolding modeNumber
-  fm-part (Fm i) g e = fm-rule (holds-fm i g) (fm-told i (g .rest))
+  fm-part (Fm i) g e = fm-rule (holds-fm i g) (fm-writable i (g .rest))
   fm-part (Dmr i) g e = absurd (omega arith)
   fm-part (M17 i) g e = absurd (omega arith)
 
-  dmr-part : (info : Info) → Given name description common info → Ranges common info → modeNumber info ≡ 1
-      → GoodDmr (channelBytes name description common info)
+  dmr-part : (info : Info) → Writable name description common info → Ranges common info → modeNumber info ≡ 1
+      → ValidDmr (channelBytes name description common info)
   unfolding modeNumber
   dmr-part (Fm i) g r e = absurd (omega arith)
-  dmr-part (Dmr i) g r e = dmr-rule (holds-dmr i g r) (dmr-told i (g .rest))
+  dmr-part (Dmr i) g r e = dmr-rule (holds-dmr i g r) (dmr-writable i (g .rest))
   dmr-part (M17 i) g r e = absurd (omega arith)
 
-  m17-part : (info : Info) → Given name description common info → Ranges common info → modeNumber info ≡ 2
-      → GoodM17 (channelBytes name description common info)
+  m17-part : (info : Info) → Writable name description common info → Ranges common info → modeNumber info ≡ 2
+      → ValidM17 (channelBytes name description common info)
   unfolding modeNumber
   m17-part (Fm i) g r e = absurd (omega arith)
   m17-part (Dmr i) g r e = absurd (omega arith)
-  m17-part (M17 i) g r e = m17-rule (holds-m17 i g r) (m17-told i (g .rest))
+  m17-part (M17 i) g r e = m17-rule (holds-m17 i g r) (m17-writable i (g .rest))
 
 mode-low : (info : Info) → modeNumber info ≤ 2
 unfolding modeNumber
@@ -387,14 +387,14 @@ mode-low (M17 i) = omega arith
 -- ---- write, then read
 
 module _ (name description : List ℕ) (common : Common) (info : Info) where
-  good-bytes : Given name description common info → Ranges common info → GoodChannel (channelBytes name description common info)
-  good-bytes g r =
-      let h = head-told common (g .head) in
-      let l = location-told (common .location) (g .place) in
+  valid-bytes : Writable name description common info → Ranges common info → ValidChannel (channelBytes name description common info)
+  valid-bytes g r =
+      let h = head-writable common (g .head) in
+      let l = location-writable (common .location) (g .place) in
       let m = at-mode name description common info g in
       record {
         mode = rw m (mode-low info);
-        traits = rw (at-traits name description common info g) (choice-ok _ (h .choice));
+        traits = rw (at-traits name description common info g) (number-flag-ok _ (h .traits));
         scan = rw (at-scan name description common info g) (leb-true _ _ (h .scan));
         group = rw (at-group name description common info g) (leb-true _ _ (h .group));
         name = rw (at-name name description common info g) (textOk-padded name (g .text));
@@ -408,18 +408,18 @@ module _ (name description : List ℕ) (common : Common) (info : Info) where
       }
 
   -- (1) a channel has 90 bytes
-  pub length-channelBytes : channelGiven 90 name description common info ≡ Good → length (channelBytes name description common info) ≡ 90
-  length-channelBytes h = long-record name description common info (given-told 90 name description common info h) .long
+  pub length-channelBytes : channelWriteRule 90 name description common info ≡ Valid → length (channelBytes name description common info) ≡ 90
+  length-channelBytes h = long-record name description common info (writable-by 90 name description common info h) .long
 
   -- (2) what a writer takes reads back as what was given, wherever the record stands
-  pub written-reads : (base : ℕ) → Ranges common info → channelGiven 90 name description common info ≡ Good
-      → (channelRule (channelBytes name description common info) base true ≡ Good)
+  pub written-reads : (base : ℕ) → Ranges common info → channelWriteRule 90 name description common info ≡ Valid
+      → (channelRule (channelBytes name description common info) base true ≡ Valid)
       × (channelOf (channelBytes name description common info)
       ≡ record { name = padded name; description = padded description; common = common; info = info })
   unfolding channelOf
   written-reads base r h =
-      let g = given-told 90 name description common info h in (
-        channel-good _ base true (good-bytes g r) (omega (arith, length-channelBytes h)) refl,
+      let g = writable-by 90 name description common info h in (
+        channel-valid _ base true (valid-bytes g r) (omega (arith, length-channelBytes h)) refl,
         rw (
           at-name name description common info g,
           at-description name description common info g,
@@ -467,9 +467,9 @@ flag-of zero h = refl
 flag-of (suc zero) h = refl
 flag-of (suc (suc x)) h = absurd (omega arith)
 
-choice-of-traits : (b : ℕ) → traitsChoice (traitsOf b) ≡ choiceOf b
-unfolding traitsChoice traitsOf
-choice-of-traits b = refl
+number-flag-of-traits : (b : ℕ) → traitsNumberFlag (traitsOf b) ≡ numberFlagOf b
+unfolding traitsNumberFlag traitsOf
+number-flag-of-traits b = refl
 
 -- ---- read, then write
 
@@ -486,7 +486,7 @@ module _ (s : List ℕ) where
   unfolding infoOf
   info-is-m17 e = rw (ne-eqb (getD s 0 0) 0 (omega arith), ne-eqb (getD s 0 0) 1 (omega arith))
 
-  module _ (b : AllBytes s) (l : 90 ≤ length s) (g : GoodChannel s) where
+  module _ (b : AllBytes s) (l : 90 ≤ length s) (g : ValidChannel s) where
     mode-is : modeNumber (infoOf s) ≡ getD s 0 0
     unfolding modeNumber
     mode-is =
@@ -499,7 +499,7 @@ module _ (s : List ℕ) where
     unfolding headBytes commonOf
     head-back =
         is-cons s 0 _ (omega arith) mode-is
-        (is-cons s 1 _ (omega arith) (rw (choice-of-traits (getD s 1 0)) (choiceByte-of (getD s 1 0) (g .traits) (b 1)))
+        (is-cons s 1 _ (omega arith) (rw (number-flag-of-traits (getD s 1 0)) (numberFlagByte-of (getD s 1 0) (g .traits) (b 1)))
         (is-cons s 2 _ (omega arith) refl
         (is-append (is-num s 3 4 _ b (omega arith) refl)
         (is-append (is-num s 7 4 _ b (omega arith) refl)
@@ -513,7 +513,7 @@ module _ (s : List ℕ) where
         (is-cons s 80 _ (omega arith) (signedByte-of _ (b 80))
         (is-append (is-num s 81 2 _ b (omega arith) refl) (is-num s 83 2 _ b (omega arith) refl))))
 
-    fm-back : GoodFm s → Is s (infoBytes (Fm (fmOf s))) 85 5
+    fm-back : ValidFm s → Is s (infoBytes (Fm (fmOf s))) 85 5
     unfolding infoBytes fmOf
     fm-back f =
         is-cons s 85 _ (omega arith) (toneByte-of _ (b 85))
@@ -522,19 +522,19 @@ module _ (s : List ℕ) where
         (is-cons s 88 _ (omega arith) (sym (f .second))
         (is-cons s 89 _ (omega arith) (sym (f .third)) (is-none s 90)))))
 
-    dmr-back : GoodDmr s → Is s (infoBytes (Dmr (dmrOf s))) 85 5
+    dmr-back : ValidDmr s → Is s (infoBytes (Dmr (dmrOf s))) 85 5
     unfolding infoBytes dmrOf
     dmr-back f =
-        is-cons s 85 _ (omega arith) (halvesByte-of _ (b 85))
+        is-cons s 85 _ (omega arith) (nibblesByte-of _ (b 85))
         (is-cons s 86 _ (omega arith) refl
         (is-append (is-num s 87 2 _ b (omega arith) (contactNumber-of _))
         (is-cons s 89 _ (omega arith) (sym (f .pad)) (is-none s 90))))
 
-    m17-back : GoodM17 s → Is s (infoBytes (M17 (m17Of s))) 85 5
+    m17-back : ValidM17 s → Is s (infoBytes (M17 (m17Of s))) 85 5
     unfolding infoBytes m17Of
     m17-back f =
-        is-cons s 85 _ (omega arith) (halvesByte-of _ (b 85))
-        (is-cons s 86 _ (omega arith) (halvesByte-of _ (b 86))
+        is-cons s 85 _ (omega arith) (nibblesByte-of _ (b 85))
+        (is-cons s 86 _ (omega arith) (nibblesByte-of _ (b 86))
         (is-cons s 87 _ (omega arith) (flag-of _ (f .position))
         (is-num s 88 2 _ b (omega arith) (contactNumber-of _))))
 
@@ -555,64 +555,64 @@ module _ (s : List ℕ) where
         (is-append (text-back 13 (omega arith) (g .name))
         (is-append (text-back 45 (omega arith) (g .description)) (is-append location-back info-back)))
 
-    head-given : GivenHead (commonOf s)
+    validate-head : WritableHead (commonOf s)
     unfolding commonOf
-    head-given =
+    validate-head =
         record {
-          choice = rw (choice-of-traits (getD s 1 0)) (choiceGood-of (getD s 1 0) (g .traits));
+          traits = rw (number-flag-of-traits (getD s 1 0)) (numberFlagValid-of (getD s 1 0) (g .traits));
           scan = le-leb _ _ (g .scan);
           group = le-leb _ _ (g .group);
         }
 
-    location-given : GivenLocation (commonOf s .location)
+    validate-location : WritableLocation (commonOf s .location)
     unfolding commonOf locationOf
-    location-given = record { floor = g .latitude; above = g .latitude-fraction; beyond = g .longitude-fraction }
+    validate-location = record { floor = g .latitude; above = g .latitude-fraction; beyond = g .longitude-fraction }
 
-    fm-given : GoodFm s → GivenFm (fmOf s)
+    validate-fm : ValidFm s → WritableFm (fmOf s)
     unfolding fmOf
-    fm-given f = record { first = toneGood-of _ (f .receive); second = toneGood-of _ (f .transmit) }
+    validate-fm f = record { first = toneValid-of _ (f .receive); second = toneValid-of _ (f .transmit) }
 
-    dmr-given : GoodDmr s → GivenDmr (dmrOf s)
+    validate-dmr : ValidDmr s → WritableDmr (dmrOf s)
     unfolding dmrOf
-    dmr-given f = record { halves = halvesGood-of _ (b 85); timeslot = f .slot }
+    validate-dmr f = record { nibbles = nibblesValid-of _ (b 85); timeslot = f .slot }
 
-    m17-given : GoodM17 s → GivenM17 (m17Of s)
+    validate-m17 : ValidM17 s → WritableM17 (m17Of s)
     unfolding m17Of
-    m17-given f = record { halves = halvesGood-of _ (b 85); use-of = and-both _ _ (f .operation) (f .encryption) }
+    validate-m17 f = record { nibbles = nibblesValid-of _ (b 85); use-of = and-both _ _ (f .operation) (f .encryption) }
 
-    info-given : infoGiven (infoOf s) ≡ Good
-    info-given =
-        by-mode (infoGiven (infoOf s) ≡ Good) (getD s 0 0)
-        (λ e. rw (info-is-fm e) (fm-passes _ (fm-given (g .fm e))))
-        (λ e. rw (info-is-dmr e) (dmr-passes _ (dmr-given (g .dmr e))))
-        (λ e. let m : getD s 0 0 ≡ 2 = omega (arith, g .mode) in rw (info-is-m17 m) (m17-passes _ (m17-given (g .m17 m))))
+    validate-info : infoWriteRule (infoOf s) ≡ Valid
+    validate-info =
+        by-mode (infoWriteRule (infoOf s) ≡ Valid) (getD s 0 0)
+        (λ e. rw (info-is-fm e) (fm-passes _ (validate-fm (g .fm e))))
+        (λ e. rw (info-is-dmr e) (dmr-passes _ (validate-dmr (g .dmr e))))
+        (λ e. let m : getD s 0 0 ≡ 2 = omega (arith, g .mode) in rw (info-is-m17 m) (m17-passes _ (validate-m17 (g .m17 m))))
 
-    given-back : Given (textOf (part s 13 32)) (textOf (part s 45 32)) (commonOf s) (infoOf s)
+    given-back : Writable (textOf (part s 13 32)) (textOf (part s 45 32)) (commonOf s) (infoOf s)
     given-back =
         record {
-          head = head-passes _ head-given;
+          head = head-passes _ validate-head;
           text = given-textOf _ (g .name) (length-part s 13 32 (omega arith));
           second = given-textOf _ (g .description) (length-part s 45 32 (omega arith));
-          place = location-passes _ location-given;
-          rest = info-given;
+          place = location-passes _ validate-location;
+          rest = validate-info;
         }
 
--- (3) what reading finds good writes back as the bytes that were read, and no writer refuses it
-pub read-writes : (s : List ℕ) (base : ℕ) (named : Bool) → AllBytes s → channelRule s base named ≡ Good
+-- (3) what reading finds valid writes back as the bytes that were read, and no writer refuses it
+pub read-writes : (s : List ℕ) (base : ℕ) (named : Bool) → AllBytes s → channelRule s base named ≡ Valid
     → (channelBytes (textOf (channelOf s .name)) (textOf (channelOf s .description)) (channelOf s .common) (channelOf s .info) ≡ take 90 s)
-    × (channelGiven 90 (textOf (channelOf s .name)) (textOf (channelOf s .description)) (channelOf s .common) (channelOf s .info) ≡ Good)
+    × (channelWriteRule 90 (textOf (channelOf s .name)) (textOf (channelOf s .description)) (channelOf s .common) (channelOf s .info) ≡ Valid)
 unfolding channelOf
 read-writes s base named b h =
-    let l = good-length s base named h in
-    let g = good-channel s base named h in
-    (channel-back s b l g .is, given-passes 90 _ _ _ _ (omega arith) (given-back s b l g))
+    let l = valid-length s base named h in
+    let g = valid-channel s base named h in
+    (channel-back s b l g .is, rule-passes 90 _ _ _ _ (omega arith) (given-back s b l g))
 
 -- and its values are in the ranges that the Rust types give
-pub read-ranges : (s : List ℕ) (base : ℕ) (named : Bool) → AllBytes s → channelRule s base named ≡ Good
+pub read-ranges : (s : List ℕ) (base : ℕ) (named : Bool) → AllBytes s → channelRule s base named ≡ Valid
     → Ranges (channelOf s .common) (channelOf s .info)
 unfolding channelOf commonOf locationOf dmrOf m17Of
 read-ranges s base named b h =
-    let g = good-channel s base named h in
+    let g = valid-channel s base named h in
     record {
       power-u8 = b 2;
       receive-u32 = num-lt s 3 4 b;
@@ -655,18 +655,18 @@ text-bytes v h =
     let t : Bytes v = record { all = plainText-bytes v (givenOk-plain v h) } in
     append-bytes t (record { all = bytes-zeros (32 - length v) })
 
-head-bytes : (mode : ℕ) (common : Common) (info : Info) → mode ≤ 2 → GivenHead common → Ranges common info → Bytes (headBytes mode common)
+head-bytes : (mode : ℕ) (common : Common) (info : Info) → mode ≤ 2 → WritableHead common → Ranges common info → Bytes (headBytes mode common)
 unfolding headBytes
 head-bytes mode common info m g r =
     let a : mode < 256 = omega arith in
     let b : common .«scan_list» < 256 = omega (arith, leb-true (common .«scan_list») 250 (g .scan)) in
     let c : common .«group_list» < 256 = omega (arith, leb-true (common .«group_list») 128 (g .group)) in
     cons-bytes a
-    (cons-bytes (choiceByte-lt _ (g .choice))
+    (cons-bytes (numberFlagByte-lt _ (g .traits))
     (cons-bytes (r .power-u8)
     (append-bytes (little-bytes 4 _) (append-bytes (little-bytes 4 _) (cons-bytes b (cons-bytes c nil-bytes))))))
 
-location-bytes : (common : Common) (info : Info) → GivenLocation (common .location) → Ranges common info → Bytes (locationBytes (common .location))
+location-bytes : (common : Common) (info : Info) → WritableLocation (common .location) → Ranges common info → Bytes (locationBytes (common .location))
 unfolding locationBytes
 location-bytes common info g r =
     cons-bytes (signedByte-lt _ (latitude-range _ (g .floor)))
@@ -680,49 +680,49 @@ slot-lt x h = omega (arith, leb-true x 2 (and-right (leb 1 x) _ h))
 flag-lt : (b : Bool) → cond b 1 0 < 256
 flag-lt b = omega (arith, flag-low b)
 
-info-bytes : (info : Info) → infoGiven info ≡ Good → Bytes (infoBytes info)
+info-bytes : (info : Info) → infoWriteRule info ≡ Valid → Bytes (infoBytes info)
 unfolding infoBytes
 info-bytes (Fm i) h =
-    let g = fm-told i h in
+    let g = fm-writable i h in
     let z : 0 < 256 = omega arith in
     cons-bytes (toneByte-lt _ (g .first)) (cons-bytes (toneByte-lt _ (g .second)) (cons-bytes z (cons-bytes z (cons-bytes z nil-bytes))))
 info-bytes (Dmr i) h =
-    let g = dmr-told i h in
+    let g = dmr-writable i h in
     let z : 0 < 256 = omega arith in
-    cons-bytes (halvesByte-lt _ (g .halves))
+    cons-bytes (nibblesByte-lt _ (g .nibbles))
     (cons-bytes (slot-lt _ (g .timeslot)) (append-bytes (little-bytes 2 _) (cons-bytes z nil-bytes)))
 info-bytes (M17 i) h =
-    let g = m17-told i h in
-    cons-bytes (halvesByte-lt _ (g .halves))
-    (cons-bytes (halvesByte-lt _ (use-halves i g)) (cons-bytes (flag-lt (i .position)) (little-bytes 2 _)))
+    let g = m17-writable i h in
+    cons-bytes (nibblesByte-lt _ (g .nibbles))
+    (cons-bytes (nibblesByte-lt _ (use-nibbles i g)) (cons-bytes (flag-lt (i .position)) (little-bytes 2 _)))
 
 -- s is a record's bytes that read as these values
 pub record Reads (s name description : List ℕ) (common : Common) (info : Info) : Type 0 where
   pub bytes-are : AllBytes s
-  pub rule-is : channelRule s 0 true ≡ Good
+  pub rule-is : channelRule s 0 true ≡ Valid
   pub name-is : textOf (channelOf s .name) ≡ name
   pub description-is : textOf (channelOf s .description) ≡ description
   pub common-is : channelOf s .common ≡ common
   pub info-is : channelOf s .info ≡ info
 
 module _ (name description : List ℕ) (common : Common) (info : Info) where
-  pub bytes-channelBytes : Ranges common info → channelGiven 90 name description common info ≡ Good
+  pub bytes-channelBytes : Ranges common info → channelWriteRule 90 name description common info ≡ Valid
       → AllBytes (channelBytes name description common info)
   unfolding channelBytes
   bytes-channelBytes r h =
-      let g = given-told 90 name description common info h in
-      append-bytes (head-bytes (modeNumber info) common info (mode-low info) (head-told common (g .head)) r)
+      let g = writable-by 90 name description common info h in
+      append-bytes (head-bytes (modeNumber info) common info (mode-low info) (head-writable common (g .head)) r)
       (append-bytes (text-bytes name (g .text))
       (append-bytes (text-bytes description (g .second))
-      (append-bytes (location-bytes common info (location-told (common .location) (g .place)) r) (info-bytes info (g .rest)))))
+      (append-bytes (location-bytes common info (location-writable (common .location) (g .place)) r) (info-bytes info (g .rest)))))
       .all
 
-  -- (4) what a writer takes, some good record holds
-  pub given-held : Ranges common info → channelGiven 90 name description common info ≡ Good
+  -- (4) what a writer takes, some valid record holds
+  pub given-held : Ranges common info → channelWriteRule 90 name description common info ≡ Valid
       → (s : List ℕ) × Reads s name description common info
   given-held r h =
       let w = written-reads name description common info 0 r h in
-      let g = given-told 90 name description common info h in (
+      let g = writable-by 90 name description common info h in (
         channelBytes name description common info,
         record {
           bytes-are = bytes-channelBytes r h;
@@ -734,13 +734,13 @@ module _ (name description : List ℕ) (common : Common) (info : Info) where
         },
       )
 
-  -- what a good record holds, a writer takes
-  pub held-given : ((s : List ℕ) × Reads s name description common info) → channelGiven 90 name description common info ≡ Good
+  -- what a valid record holds, a writer takes
+  pub held-given : ((s : List ℕ) × Reads s name description common info) → channelWriteRule 90 name description common info ≡ Valid
   held-given (s, r) =
       let h = read-writes s 0 true (r .bytes-are) (r .rule-is) .1 in
       rw (r .name-is, r .description-is, r .common-is, r .info-is) at h
 
-  -- so a writer refuses exactly the values that no good record holds
+  -- so a writer refuses exactly the values that no valid record holds
   pub given-exactly : Ranges common info
-      → (channelGiven 90 name description common info ≡ Good) ↔ ((s : List ℕ) × Reads s name description common info)
+      → (channelWriteRule 90 name description common info ≡ Valid) ↔ ((s : List ℕ) × Reads s name description common info)
   given-exactly r = (given-held r, held-given)

@@ -1,4 +1,4 @@
--- Laws of writing a channel: what a good given says field by field, and a record that grows from its front over zeros.
+-- Laws of writing a channel: what a valid given says field by field, and a record that grows from its front over zeros.
 use Prim.Native.Nat.{ℕ, _+_, _-_, _≤_, _<_}
 use mathlib.Core.Path.{_≡_, refl, sym, _∙_}
 use mathlib.Core.Bool.{Bool, true, false, _&&_, cond}
@@ -16,17 +16,17 @@ use borrow.Author.Tests.{leb-true, le-leb}
 use Rattle.fields.specs.Bytes.{zeros, over, littleBytes}
 use Rattle.text.specs.Text.{givenOk, padded}
 use Rattle.fields.specs.Rule.{_then_, unless}
-use Rattle.fields.specs.declared.rule.Verdict.{Verdict}
-use Rattle.fields.specs.declared.rule.Verdict.the-variants.{Good, Refused}
+use Rattle.fields.specs.declared.rule.Validity.{Validity}
+use Rattle.fields.specs.declared.rule.Validity.the-variants.{Valid, Refused}
 use Rattle.fields.proofs.Laws.{Long, long-append, length-zeros, zeros-append, drop-zeros, over-over, over-front-at}
-use Rattle.fields.proofs.Laws.{then-good, both-good, unless-good, unless-passes, written-good, written-refused}
+use Rattle.fields.proofs.Laws.{then-valid, both-valid, unless-valid, unless-passes, written-valid, written-refused}
 use Rattle.text.proofs.Laws.{givenOk-length, length-padded}
-use Rattle.bits.specs.declared.Halves.{Halves}
-use Rattle.bits.specs.Packed.{choiceGood, halvesGood, signedOf, signedByte}
+use Rattle.bits.specs.declared.Nibbles.{Nibbles}
+use Rattle.bits.specs.Packed.{numberFlagValid, nibblesValid, signedOf, signedByte}
 use Rattle.bits.proofs.Laws.{signed-returns, i8Range-fits, and-left, and-right, and-both}
-use Rattle.tones.specs.Tone.{toneGood}
-use Rattle.channel.specs.Values.{traitsChoice, latitudeOk, latitudeFractionOk, fractionOk, slotOk, operationOk, encryptionOk}
-use Rattle.channel_writer.specs.Writing.{headGiven, locationGiven, infoGiven, channelGiven}
+use Rattle.tones.specs.Tone.{toneValid}
+use Rattle.channel.specs.Values.{traitsNumberFlag, latitudeOk, latitudeFractionOk, fractionOk, slotOk, operationOk, encryptionOk}
+use Rattle.channel_writer.specs.Writing.{headWriteRule, locationWriteRule, infoWriteRule, channelWriteRule}
 use Rattle.channel.specs.Values.{modeNumber}
 use Rattle.channel_writer.specs.Writing.{headBytes, locationBytes, infoBytes, channelBytes, channelWritten}
 use Rattle.channel.specs.declared.Location.{Location}
@@ -50,130 +50,130 @@ pub flag-byte : (b : Bool) → boolByte b ≡ cond b 1 0
 flag-byte true = refl
 flag-byte false = refl
 
--- ---- what a good given says, field by field
+-- ---- what a valid given says, field by field
 
-pub record GivenHead (c : Common) : Type 0 where
-  pub choice : choiceGood (traitsChoice (c .traits)) ≡ true
+pub record WritableHead (c : Common) : Type 0 where
+  pub traits : numberFlagValid (traitsNumberFlag (c .traits)) ≡ true
   pub scan : leb (c .«scan_list») 250 ≡ true
   pub group : leb (c .«group_list») 128 ≡ true
 
-pub record GivenLocation (l : Location) : Type 0 where
+pub record WritableLocation (l : Location) : Type 0 where
   pub floor : latitudeOk (l .latitude) ≡ true
   pub above : latitudeFractionOk (l .latitude) (l .«latitude_e4») ≡ true
   pub beyond : fractionOk (l .«longitude_e4») ≡ true
 
-pub record GivenFm (i : FmInfo) : Type 0 where
-  pub first : toneGood (i .receive) ≡ true
-  pub second : toneGood (i .transmit) ≡ true
+pub record WritableFm (i : FmInfo) : Type 0 where
+  pub first : toneValid (i .receive) ≡ true
+  pub second : toneValid (i .transmit) ≡ true
 
-pub record GivenDmr (i : DmrInfo) : Type 0 where
-  pub halves : halvesGood (i .colours) ≡ true
+pub record WritableDmr (i : DmrInfo) : Type 0 where
+  pub nibbles : nibblesValid (i .colours) ≡ true
   pub timeslot : slotOk (i .slot) ≡ true
 
-pub record GivenM17 (i : M17Info) : Type 0 where
-  pub halves : halvesGood (i .access) ≡ true
+pub record WritableM17 (i : M17Info) : Type 0 where
+  pub nibbles : nibblesValid (i .access) ≡ true
   pub use-of : operationOk (i .operation) && encryptionOk (i .encryption) ≡ true
 
-pub record Given (name description : List ℕ) (common : Common) (info : Info) : Type 0 where
-  pub head : headGiven common ≡ Good
+pub record Writable (name description : List ℕ) (common : Common) (info : Info) : Type 0 where
+  pub head : headWriteRule common ≡ Valid
   pub text : givenOk name ≡ true
   pub second : givenOk description ≡ true
-  pub place : locationGiven (common .location) ≡ Good
-  pub rest : infoGiven info ≡ Good
+  pub place : locationWriteRule (common .location) ≡ Valid
+  pub rest : infoWriteRule info ≡ Valid
 
 -- three tests in a row
-three-good : (a b c : Verdict) → (a then b then c) ≡ Good → (a ≡ Good) × ((b ≡ Good) × (c ≡ Good))
-three-good a b c h =
-    let f = then-good a (b then c) h in
-    (f .0, then-good b c (f .1))
+three-valid : (a b c : Validity) → (a then b then c) ≡ Valid → (a ≡ Valid) × ((b ≡ Valid) × (c ≡ Valid))
+three-valid a b c h =
+    let f = then-valid a (b then c) h in
+    (f .0, then-valid b c (f .1))
 
-three-pass : (a b c : Verdict) → a ≡ Good → b ≡ Good → c ≡ Good → (a then b then c) ≡ Good
-three-pass a b c f g h = both-good a (b then c) f (both-good b c g h)
+three-pass : (a b c : Validity) → a ≡ Valid → b ≡ Valid → c ≡ Valid → (a then b then c) ≡ Valid
+three-pass a b c f g h = both-valid a (b then c) f (both-valid b c g h)
 
-three-tests : (p q r : Bool) (k l m i j n : ℕ) → (unless p k i then unless q l j then unless r m n) ≡ Good
+three-tests : (p q r : Bool) (k l m i j n : ℕ) → (unless p k i then unless q l j then unless r m n) ≡ Valid
     → (p ≡ true) × ((q ≡ true) × (r ≡ true))
 three-tests p q r k l m i j n h =
-    let f = three-good (unless p k i) (unless q l j) (unless r m n) h in
-    (unless-good p k i (f .0), (unless-good q l j (f .1 .0), unless-good r m n (f .1 .1)))
+    let f = three-valid (unless p k i) (unless q l j) (unless r m n) h in
+    (unless-valid p k i (f .0), (unless-valid q l j (f .1 .0), unless-valid r m n (f .1 .1)))
 
 tests-three : (p q r : Bool) (k l m i j n : ℕ) → p ≡ true → q ≡ true → r ≡ true
-    → (unless p k i then unless q l j then unless r m n) ≡ Good
+    → (unless p k i then unless q l j then unless r m n) ≡ Valid
 tests-three p q r k l m i j n e f g =
     three-pass (unless p k i) (unless q l j) (unless r m n) (unless-passes p k i e) (unless-passes q l j f) (unless-passes r m n g)
 
-pub head-told : (c : Common) → headGiven c ≡ Good → GivenHead c
-unfolding headGiven
-head-told c h =
+pub head-writable : (c : Common) → headWriteRule c ≡ Valid → WritableHead c
+unfolding headWriteRule
+head-writable c h =
     let f = three-tests _ _ _ _ _ _ _ _ _ h in
-    record { choice = f .0; scan = f .1 .0; group = f .1 .1 }
+    record { traits = f .0; scan = f .1 .0; group = f .1 .1 }
 
-pub head-passes : (c : Common) → GivenHead c → headGiven c ≡ Good
-unfolding headGiven
-head-passes c g = tests-three _ _ _ _ _ _ _ _ _ (g .choice) (g .scan) (g .group)
+pub head-passes : (c : Common) → WritableHead c → headWriteRule c ≡ Valid
+unfolding headWriteRule
+head-passes c g = tests-three _ _ _ _ _ _ _ _ _ (g .traits) (g .scan) (g .group)
 
-pub location-told : (l : Location) → locationGiven l ≡ Good → GivenLocation l
-unfolding locationGiven
-location-told l h =
+pub location-writable : (l : Location) → locationWriteRule l ≡ Valid → WritableLocation l
+unfolding locationWriteRule
+location-writable l h =
     let f = three-tests _ _ _ _ _ _ _ _ _ h in
     record { floor = f .0; above = f .1 .0; beyond = f .1 .1 }
 
-pub location-passes : (l : Location) → GivenLocation l → locationGiven l ≡ Good
-unfolding locationGiven
+pub location-passes : (l : Location) → WritableLocation l → locationWriteRule l ≡ Valid
+unfolding locationWriteRule
 location-passes l g = tests-three _ _ _ _ _ _ _ _ _ (g .floor) (g .above) (g .beyond)
 
-pub fm-told : (i : FmInfo) → infoGiven (Fm i) ≡ Good → GivenFm i
-unfolding infoGiven
-fm-told i h =
-    let f = then-good _ _ h in
-    record { first = unless-good _ _ _ (f .0); second = unless-good _ _ _ (f .1) }
+pub fm-writable : (i : FmInfo) → infoWriteRule (Fm i) ≡ Valid → WritableFm i
+unfolding infoWriteRule
+fm-writable i h =
+    let f = then-valid _ _ h in
+    record { first = unless-valid _ _ _ (f .0); second = unless-valid _ _ _ (f .1) }
 
-pub fm-passes : (i : FmInfo) → GivenFm i → infoGiven (Fm i) ≡ Good
-unfolding infoGiven
-fm-passes i g = both-good _ _ (unless-passes _ _ _ (g .first)) (unless-passes _ _ _ (g .second))
+pub fm-passes : (i : FmInfo) → WritableFm i → infoWriteRule (Fm i) ≡ Valid
+unfolding infoWriteRule
+fm-passes i g = both-valid _ _ (unless-passes _ _ _ (g .first)) (unless-passes _ _ _ (g .second))
 
-pub dmr-told : (i : DmrInfo) → infoGiven (Dmr i) ≡ Good → GivenDmr i
-unfolding infoGiven
-dmr-told i h =
-    let f = then-good _ _ h in
-    record { halves = unless-good _ _ _ (f .0); timeslot = unless-good _ _ _ (f .1) }
+pub dmr-writable : (i : DmrInfo) → infoWriteRule (Dmr i) ≡ Valid → WritableDmr i
+unfolding infoWriteRule
+dmr-writable i h =
+    let f = then-valid _ _ h in
+    record { nibbles = unless-valid _ _ _ (f .0); timeslot = unless-valid _ _ _ (f .1) }
 
-pub dmr-passes : (i : DmrInfo) → GivenDmr i → infoGiven (Dmr i) ≡ Good
-unfolding infoGiven
-dmr-passes i g = both-good _ _ (unless-passes _ _ _ (g .halves)) (unless-passes _ _ _ (g .timeslot))
+pub dmr-passes : (i : DmrInfo) → WritableDmr i → infoWriteRule (Dmr i) ≡ Valid
+unfolding infoWriteRule
+dmr-passes i g = both-valid _ _ (unless-passes _ _ _ (g .nibbles)) (unless-passes _ _ _ (g .timeslot))
 
-pub m17-told : (i : M17Info) → infoGiven (M17 i) ≡ Good → GivenM17 i
-unfolding infoGiven
-m17-told i h =
-    let f = then-good _ _ h in
-    record { halves = unless-good _ _ _ (f .0); use-of = unless-good _ _ _ (f .1) }
+pub m17-writable : (i : M17Info) → infoWriteRule (M17 i) ≡ Valid → WritableM17 i
+unfolding infoWriteRule
+m17-writable i h =
+    let f = then-valid _ _ h in
+    record { nibbles = unless-valid _ _ _ (f .0); use-of = unless-valid _ _ _ (f .1) }
 
-pub m17-passes : (i : M17Info) → GivenM17 i → infoGiven (M17 i) ≡ Good
-unfolding infoGiven
-m17-passes i g = both-good _ _ (unless-passes _ _ _ (g .halves)) (unless-passes _ _ _ (g .use-of))
+pub m17-passes : (i : M17Info) → WritableM17 i → infoWriteRule (M17 i) ≡ Valid
+unfolding infoWriteRule
+m17-passes i g = both-valid _ _ (unless-passes _ _ _ (g .nibbles)) (unless-passes _ _ _ (g .use-of))
 
-module _ (room : ℕ) (name description : List ℕ) (common : Common) (info : Info) where
-  pub given-room : channelGiven room name description common info ≡ Good → 90 ≤ room
-  unfolding channelGiven
-  given-room h = leb-true 90 room (unless-good _ _ _ (then-good _ _ h .0))
+module _ (size : ℕ) (name description : List ℕ) (common : Common) (info : Info) where
+  pub rule-room : channelWriteRule size name description common info ≡ Valid → 90 ≤ size
+  unfolding channelWriteRule
+  rule-room h = leb-true 90 size (unless-valid _ _ _ (then-valid _ _ h .0))
 
-  pub given-told : channelGiven room name description common info ≡ Good → Given name description common info
-  unfolding channelGiven
-  given-told h =
-      let f = then-good _ _ h in
-      let g = three-good _ _ _ (f .1) in
-      let i = three-good _ _ _ (g .1 .1) in
+  pub writable-by : channelWriteRule size name description common info ≡ Valid → Writable name description common info
+  unfolding channelWriteRule
+  writable-by h =
+      let f = then-valid _ _ h in
+      let g = three-valid _ _ _ (f .1) in
+      let i = three-valid _ _ _ (g .1 .1) in
       record {
         head = g .0;
-        text = unless-good _ _ _ (g .1 .0);
-        second = unless-good _ _ _ (i .0);
+        text = unless-valid _ _ _ (g .1 .0);
+        second = unless-valid _ _ _ (i .0);
         place = i .1 .0;
         rest = i .1 .1;
       }
 
-  pub given-passes : 90 ≤ room → Given name description common info → channelGiven room name description common info ≡ Good
-  unfolding channelGiven
-  given-passes h g =
-      both-good _ _ (unless-passes _ _ _ (le-leb 90 room h))
+  pub rule-passes : 90 ≤ size → Writable name description common info → channelWriteRule size name description common info ≡ Valid
+  unfolding channelWriteRule
+  rule-passes h g =
+      both-valid _ _ (unless-passes _ _ _ (le-leb 90 size h))
       (three-pass _ _ _ (g .head) (unless-passes _ _ _ (g .text))
       (three-pass _ _ _ (unless-passes _ _ _ (g .second)) (g .place) (g .rest)))
 
@@ -252,11 +252,11 @@ run-zeros {d} {o} {k} {n} {s} r j m z e =
 
 -- ---- operation and encryption share a byte
 
-pub halves-small : (h : Halves) → h .high ≤ 15 → h .low ≤ 15 → halvesGood h ≡ true
-unfolding halvesGood
-halves-small h a b = and-both _ _ (le-leb (h .high) 15 a) (le-leb (h .low) 15 b)
+pub nibbles-small : (h : Nibbles) → h .high ≤ 15 → h .low ≤ 15 → nibblesValid h ≡ true
+unfolding nibblesValid
+nibbles-small h a b = and-both _ _ (le-leb (h .high) 15 a) (le-leb (h .low) 15 b)
 
-pub use-bounds : (i : M17Info) → GivenM17 i → (i .operation ≤ 3) × (i .encryption ≤ 2)
+pub use-bounds : (i : M17Info) → WritableM17 i → (i .operation ≤ 3) × (i .encryption ≤ 2)
 unfolding operationOk encryptionOk
 use-bounds i g =
     let o : leb 1 (i .operation) && leb (i .operation) 3 ≡ true = and-left _ _ (g .use-of) in (
@@ -264,10 +264,10 @@ use-bounds i g =
       leb-true (i .encryption) 2 (and-right (leb 1 (i .operation) && leb (i .operation) 3) _ (g .use-of)),
     )
 
-pub use-halves : (i : M17Info) → GivenM17 i → halvesGood (record { high = i .operation; low = i .encryption }) ≡ true
-use-halves i g =
+pub use-nibbles : (i : M17Info) → WritableM17 i → nibblesValid (record { high = i .operation; low = i .encryption }) ≡ true
+use-nibbles i g =
     let u = use-bounds i g in
-    halves-small (record { high = i .operation; low = i .encryption }) (omega arith) (omega arith)
+    nibbles-small (record { high = i .operation; low = i .encryption }) (omega arith) (omega arith)
 
 -- ---- the record's parts
 
@@ -305,7 +305,7 @@ unfolding channelBytes
 record-whole r t name description mode common info m f e = rw (e, front-take f, m) (simp append-assoc)
 
 module _ (name description : List ℕ) (common : Common) (info : Info) where
-  pub long-record : Given name description common info → Long (channelBytes name description common info) 90
+  pub long-record : Writable name description common info → Long (channelBytes name description common info) 90
   unfolding channelBytes
   long-record g =
       long-append (long-head (modeNumber info) common)
@@ -315,30 +315,30 @@ module _ (name description : List ℕ) (common : Common) (info : Info) where
 
 -- ---- the buffer that a writer leaves
 
--- v is the verdict on what was given
-module _ (v : Verdict) (room : ℕ) (name description : List ℕ) (common : Common) (info : Info)
-    (e : v ≡ channelGiven room name description common info) where
-  -- what is good in this room is good in 90 bytes
-  pub write-given : v ≡ Good → channelGiven 90 name description common info ≡ Good
-  write-given g =
-      given-passes 90 name description common info (omega arith) (given-told room name description common info (sym e ∙ g))
+-- v is the validity of what was given
+module _ (v : Validity) (size : ℕ) (name description : List ℕ) (common : Common) (info : Info)
+    (e : v ≡ channelWriteRule size name description common info) where
+  -- what is valid in this room is valid in 90 bytes
+  pub write-rule : v ≡ Valid → channelWriteRule 90 name description common info ≡ Valid
+  write-rule g =
+      rule-passes 90 name description common info (omega arith) (writable-by size name description common info (sym e ∙ g))
 
   -- the record r fits
-  pub write-room : (r : List ℕ) → v ≡ Good → r ≡ channelBytes name description common info → 0 + length r ≤ room
+  pub write-room : (r : List ℕ) → v ≡ Valid → r ≡ channelBytes name description common info → 0 + length r ≤ size
   write-room r g f =
-      let h : channelGiven room name description common info ≡ Good = sym e ∙ g in
-      rw (f, long-record name description common info (given-told room name description common info h) .long)
-      (given-room room name description common info h)
+      let h : channelWriteRule size name description common info ≡ Valid = sym e ∙ g in
+      rw (f, long-record name description common info (writable-by size name description common info h) .long)
+      (rule-room size name description common info h)
 
-module _ (v : Verdict) (out name description : List ℕ) (common : Common) (info : Info)
-    (e : v ≡ channelGiven (length out) name description common info) where
+module _ (v : Validity) (out name description : List ℕ) (common : Common) (info : Info)
+    (e : v ≡ channelWriteRule (length out) name description common info) where
   -- u is the buffer afterwards
-  pub write-good : (u r : List ℕ) → v ≡ Good → r ≡ channelBytes name description common info → u ≡ over out 0 r
-      → (Good ≡ channelGiven (length out) name description common info) × (u ≡ channelWritten out name description common info)
+  pub write-valid : (u r : List ℕ) → v ≡ Valid → r ≡ channelBytes name description common info → u ≡ over out 0 r
+      → (Valid ≡ channelWriteRule (length out) name description common info) × (u ≡ channelWritten out name description common info)
   unfolding channelWritten
-  write-good u r g f h = (sym g ∙ e, rw (h, f) (sym (written-good _ out _ (sym e ∙ g))))
+  write-valid u r g f h = (sym g ∙ e, rw (h, f) (sym (written-valid _ out _ (sym e ∙ g))))
 
   pub write-refused : (n p : ℕ) → v ≡ Refused n p
-      → (Refused n p ≡ channelGiven (length out) name description common info) × (out ≡ channelWritten out name description common info)
+      → (Refused n p ≡ channelWriteRule (length out) name description common info) × (out ≡ channelWritten out name description common info)
   unfolding channelWritten
   write-refused n p g = (sym g ∙ e, sym (written-refused _ out _ n p (sym e ∙ g)))

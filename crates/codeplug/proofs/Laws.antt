@@ -1,4 +1,4 @@
--- Laws of reading: a place that is there, and what stands beside a verdict.
+-- Laws of reading: a place that is there, and what stands beside a validity.
 use Prim.Native.Nat.{ℕ, _≤_, _<_}
 use mathlib.Core.Path.{_≡_, refl, ap, _∙_}
 use mathlib.Core.List.{List}
@@ -8,151 +8,151 @@ use lib.Dec.{ltb}
 use borrow.Author.Tests.{lt-ltb, le-ltb, ltb-true}
 use Rattle.fields.specs.Bytes.{part}
 use Rattle.fields.specs.Rule.{_then_, unless}
-use Rattle.fields.specs.declared.rule.Verdict.{Verdict}
-use Rattle.fields.specs.declared.rule.Verdict.the-variants.{Good, Refused}
-use Rattle.fields.proofs.Laws.{length-part, then-good, good-then, both-good, unless-good, unless-passes}
+use Rattle.fields.specs.declared.rule.Validity.{Validity}
+use Rattle.fields.specs.declared.rule.Validity.the-variants.{Valid, Refused}
+use Rattle.fields.proofs.Laws.{length-part, then-valid, valid-then, both-valid, unless-valid, unless-passes}
 use Rattle.contact.specs.Contact.{contactAnswer}
 use Rattle.channel_reader.specs.Reading.{channelAnswer}
 use Rattle.layout.specs.Places.{contactCount, channelCount, bankCount, contactPlace, channelPlace, offsetPlace}
 use Rattle.layout.specs.Banks.{offsetAt, bankHead, banksRule, bankPlace}
-use Rattle.layout.proofs.Laws.{bank-leads, bank-good, bank-head-length}
+use Rattle.layout.proofs.Laws.{bank-leads, bank-valid, bank-head-length}
 use Rattle.file_rule.specs.File.{fileRule}
 use Rattle.codeplug.specs.Read.{bytesAnswer, placeRule, contactRead, channelRead, bankAnswer, bankRead, entriesAnswer}
-use Rattle.codeplug.specs.Once.{contactOnceRule, contactOnce, channelOnceRule, channelOnce, tablePlace, bankOnceRule, bankOnce}
+use Rattle.codeplug.specs.Prevalidated.{contactPrevalidatedRule, contactPrevalidated, channelPrevalidatedRule, channelPrevalidated, tablePlace, bankPrevalidatedRule, bankPrevalidated}
 use Rattle.codeplug.specs.There.{BankLed}
-use Rattle.file_rule.proofs.Laws.{file-good, contact-there, contact-whole, channel-there, channel-whole}
+use Rattle.file_rule.proofs.Laws.{file-valid, contact-there, contact-whole, channel-there, channel-whole}
 
 -- ---- bank n, where its offset leads
 
-pub table-leads : (f : List ℕ) (n : ℕ) → banksRule f ≡ Good → n < bankCount f → tablePlace f n ≡ bankPlace f n
+pub table-leads : (f : List ℕ) (n : ℕ) → banksRule f ≡ Valid → n < bankCount f → tablePlace f n ≡ bankPlace f n
 unfolding tablePlace
 table-leads f n h g = bank-leads f n h g
 
-pub bank-whole : (f : List ℕ) (p : ℕ) → bankHead f p ≡ Good → 34 ≤ length (part f p 34)
+pub bank-whole : (f : List ℕ) (p : ℕ) → bankHead f p ≡ Valid → 34 ≤ length (part f p 34)
 bank-whole f p h = omega (arith, length-part f p 34 (bank-head-length f p h))
 
--- ---- the file's verdict, then 33
+-- ---- the file's validity, then 33
 
-pub record GoodPlace (f : List ℕ) (n count : ℕ) : Type 0 where
-  pub file : fileRule f ≡ Good
+pub record ValidPlace (f : List ℕ) (n count : ℕ) : Type 0 where
+  pub file : fileRule f ≡ Valid
   pub below : n < count
 
-pub place-good : (f : List ℕ) (n count : ℕ) → placeRule f n count ≡ Good → GoodPlace f n count
+pub place-valid : (f : List ℕ) (n count : ℕ) → placeRule f n count ≡ Valid → ValidPlace f n count
 unfolding placeRule
-place-good f n count h =
-    let a = then-good _ _ h in
-    record { file = a .0; below = ltb-true n count (unless-good (ltb n count) 33 0 (a .1)) }
+place-valid f n count h =
+    let a = then-valid _ _ h in
+    record { file = a .0; below = ltb-true n count (unless-valid (ltb n count) 33 0 (a .1)) }
 
-pub place-passes : (f : List ℕ) (n count : ℕ) → fileRule f ≡ Good → n < count → placeRule f n count ≡ Good
+pub place-passes : (f : List ℕ) (n count : ℕ) → fileRule f ≡ Valid → n < count → placeRule f n count ≡ Valid
 unfolding placeRule
-place-passes f n count h g = both-good _ _ h (unless-passes (ltb n count) 33 0 (lt-ltb n count g))
+place-passes f n count h g = both-valid _ _ h (unless-passes (ltb n count) 33 0 (lt-ltb n count g))
 
--- 33 before a record's own verdict; v is that verdict
-pub place-below : (n count : ℕ) (v : Verdict) → n < count → unless (ltb n count) 33 0 then v ≡ v
-place-below n count v h = good-then _ v (unless-passes (ltb n count) 33 0 (lt-ltb n count h))
+-- 33 before a record's own validity; v is that validity
+pub place-below : (n count : ℕ) (v : Validity) → n < count → unless (ltb n count) 33 0 then v ≡ v
+place-below n count v h = valid-then _ v (unless-passes (ltb n count) 33 0 (lt-ltb n count h))
 
-pub place-past : (n count : ℕ) (v : Verdict) → count ≤ n → unless (ltb n count) 33 0 then v ≡ Refused 33 0
+pub place-past : (n count : ℕ) (v : Validity) → count ≤ n → unless (ltb n count) 33 0 then v ≡ Refused 33 0
 unfolding unless _then_
 place-past n count v h = rw (le-ltb n count h)
 
--- ---- a record whose place is good, with the whole of its bytes
+-- ---- a record whose place is valid, with the whole of its bytes
 
-module _ (f : List ℕ) (n count : ℕ) (good : placeRule f n count ≡ Good) where
+module _ (f : List ℕ) (n count : ℕ) (valid : placeRule f n count ≡ Valid) where
   pub placed-contact : count ≡ contactCount f → 39 ≤ length (part f (contactPlace n) 39)
   placed-contact e =
-      let g = place-good f n count good in
-      contact-whole f (contactPlace n) (contact-there f n (file-good f (g .file) .contacts) (omega (arith, g .below)))
+      let g = place-valid f n count valid in
+      contact-whole f (contactPlace n) (contact-there f n (file-valid f (g .file) .contacts) (omega (arith, g .below)))
 
   pub placed-channel : count ≡ channelCount f → 90 ≤ length (part f (channelPlace f n) 90)
   placed-channel e =
-      let g = place-good f n count good in
-      channel-whole f (channelPlace f n) (channel-there f n (file-good f (g .file) .channels) (omega (arith, g .below)))
+      let g = place-valid f n count valid in
+      channel-whole f (channelPlace f n) (channel-there f n (file-valid f (g .file) .channels) (omega (arith, g .below)))
 
   -- its offset leads to it
   pub placed-leads : count ≡ bankCount f → tablePlace f n ≡ bankPlace f n
   placed-leads e =
-      let g = place-good f n count good in
-      table-leads f n (file-good f (g .file) .banks) (omega (arith, g .below))
+      let g = place-valid f n count valid in
+      table-leads f n (file-valid f (g .file) .banks) (omega (arith, g .below))
 
   pub placed-bank : count ≡ bankCount f → 34 ≤ length (part f (tablePlace f n) 34)
   placed-bank e =
-      let g = place-good f n count good in
+      let g = place-valid f n count valid in
       rw (placed-leads e)
-      (bank-whole f (bankPlace f n) (bank-good f n (file-good f (g .file) .banks) (omega (arith, g .below)) .0))
+      (bank-whole f (bankPlace f n) (bank-valid f n (file-valid f (g .file) .banks) (omega (arith, g .below)) .0))
 
--- ---- a bank of a file that was judged before
+-- ---- a bank of a file that was validated before
 
-pub record GoodOnce (f : List ℕ) (n : ℕ) : Type 0 where
+pub record ValidPrevalidated (f : List ℕ) (n : ℕ) : Type 0 where
   pub below : n < bankCount f
-  pub head : bankHead f (tablePlace f n) ≡ Good
+  pub head : bankHead f (tablePlace f n) ≡ Valid
 
-pub once-good : (f : List ℕ) (n : ℕ) → bankOnceRule f n ≡ Good → GoodOnce f n
-unfolding bankOnceRule
-once-good f n h =
-    let a = then-good _ _ h in
+pub prevalidated-valid : (f : List ℕ) (n : ℕ) → bankPrevalidatedRule f n ≡ Valid → ValidPrevalidated f n
+unfolding bankPrevalidatedRule
+prevalidated-valid f n h =
+    let a = then-valid _ _ h in
     record {
-      below = ltb-true n (bankCount f) (unless-good (ltb n (bankCount f)) 33 0 (a .0));
-      head = then-good (offsetAt f (offsetPlace f n)) (bankHead f (tablePlace f n)) (a .1) .1;
+      below = ltb-true n (bankCount f) (unless-valid (ltb n (bankCount f)) 33 0 (a .0));
+      head = then-valid (offsetAt f (offsetPlace f n)) (bankHead f (tablePlace f n)) (a .1) .1;
     }
 
--- ---- what stands beside a verdict: beside a refusal the bytes do not matter
+-- ---- what stands beside a validity: beside a refusal the bytes do not matter
 
-pub never : {A : Type 0} {v : Verdict} {n p : ℕ} → v ≡ Refused n p → v ≡ Good → A
+pub never : {A : Type 0} {v : Validity} {n p : ℕ} → v ≡ Refused n p → v ≡ Valid → A
 never {A} {v} {n} {p} h g = let z : _≡_ {A = ℕ} 0 1 = cc in absurd (omega arith)
 
-pub contact-same : (v : Verdict) (s t : List ℕ) → (v ≡ Good → s ≡ t) → contactAnswer v s ≡ contactAnswer v t
+pub contact-same : (v : Validity) (s t : List ℕ) → (v ≡ Valid → s ≡ t) → contactAnswer v s ≡ contactAnswer v t
 unfolding contactAnswer
-contact-same Good s t h = rw (h refl)
+contact-same Valid s t h = rw (h refl)
 contact-same (Refused n p) s t h = refl
 
-pub channel-same : (v : Verdict) (s t : List ℕ) → (v ≡ Good → s ≡ t) → channelAnswer v s ≡ channelAnswer v t
+pub channel-same : (v : Validity) (s t : List ℕ) → (v ≡ Valid → s ≡ t) → channelAnswer v s ≡ channelAnswer v t
 unfolding channelAnswer
-channel-same Good s t h = rw (h refl)
+channel-same Valid s t h = rw (h refl)
 channel-same (Refused n p) s t h = refl
 
-pub bank-same : (v : Verdict) (s t : List ℕ) → (v ≡ Good → s ≡ t) → bankAnswer v s ≡ bankAnswer v t
+pub bank-same : (v : Validity) (s t : List ℕ) → (v ≡ Valid → s ≡ t) → bankAnswer v s ≡ bankAnswer v t
 unfolding bankAnswer
-bank-same Good s t h = rw (h refl)
+bank-same Valid s t h = rw (h refl)
 bank-same (Refused n p) s t h = refl
 
-pub entries-same : (v : Verdict) (f : List ℕ) (p q : ℕ) → (v ≡ Good → p ≡ q) → entriesAnswer v f p ≡ entriesAnswer v f q
+pub entries-same : (v : Validity) (f : List ℕ) (p q : ℕ) → (v ≡ Valid → p ≡ q) → entriesAnswer v f p ≡ entriesAnswer v f q
 unfolding entriesAnswer
-entries-same Good f p q h = rw (h refl)
+entries-same Valid f p q h = rw (h refl)
 entries-same (Refused n a) f p q h = refl
 
--- ---- what is read, from the record's verdict and its bytes
+-- ---- what is read, from the record's validity and its bytes
 
-pub bytes-good : (v : Verdict) (s t : List ℕ) → s ≡ bytesAnswer v t → v ≡ Good → s ≡ t
+pub bytes-valid : (v : Validity) (s t : List ℕ) → s ≡ bytesAnswer v t → v ≡ Valid → s ≡ t
 unfolding bytesAnswer
-bytes-good Good s t h g = h
-bytes-good (Refused n p) s t h g = never refl g
+bytes-valid Valid s t h g = h
+bytes-valid (Refused n p) s t h g = never refl g
 
-pub contact-read : (f : List ℕ) (n : ℕ) (v : Verdict) (s : List ℕ) → v ≡ placeRule f n (contactCount f)
+pub contact-read : (f : List ℕ) (n : ℕ) (v : Validity) (s : List ℕ) → v ≡ placeRule f n (contactCount f)
     → s ≡ bytesAnswer v (part f (contactPlace n) 39) → contactAnswer v s ≡ contactRead f n
 unfolding contactRead
-contact-read f n v s e h = contact-same v s _ (bytes-good v s _ h) ∙ rw e
+contact-read f n v s e h = contact-same v s _ (bytes-valid v s _ h) ∙ rw e
 
-pub contact-read-once : (f : List ℕ) (n : ℕ) (v : Verdict) (s : List ℕ) → v ≡ contactOnceRule f n
-    → s ≡ bytesAnswer v (part f (contactPlace n) 39) → contactAnswer v s ≡ contactOnce f n
-unfolding contactOnce
-contact-read-once f n v s e h = contact-same v s _ (bytes-good v s _ h) ∙ rw e
+pub contact-read-prevalidated : (f : List ℕ) (n : ℕ) (v : Validity) (s : List ℕ) → v ≡ contactPrevalidatedRule f n
+    → s ≡ bytesAnswer v (part f (contactPlace n) 39) → contactAnswer v s ≡ contactPrevalidated f n
+unfolding contactPrevalidated
+contact-read-prevalidated f n v s e h = contact-same v s _ (bytes-valid v s _ h) ∙ rw e
 
-pub channel-read : (f : List ℕ) (n : ℕ) (v : Verdict) (s : List ℕ) → v ≡ placeRule f n (channelCount f)
+pub channel-read : (f : List ℕ) (n : ℕ) (v : Validity) (s : List ℕ) → v ≡ placeRule f n (channelCount f)
     → s ≡ bytesAnswer v (part f (channelPlace f n) 90) → channelAnswer v s ≡ channelRead f n
 unfolding channelRead
-channel-read f n v s e h = channel-same v s _ (bytes-good v s _ h) ∙ rw e
+channel-read f n v s e h = channel-same v s _ (bytes-valid v s _ h) ∙ rw e
 
-pub channel-read-once : (f : List ℕ) (n : ℕ) (v : Verdict) (s : List ℕ) → v ≡ channelOnceRule f n
-    → s ≡ bytesAnswer v (part f (channelPlace f n) 90) → channelAnswer v s ≡ channelOnce f n
-unfolding channelOnce
-channel-read-once f n v s e h = channel-same v s _ (bytes-good v s _ h) ∙ rw e
+pub channel-read-prevalidated : (f : List ℕ) (n : ℕ) (v : Validity) (s : List ℕ) → v ≡ channelPrevalidatedRule f n
+    → s ≡ bytesAnswer v (part f (channelPlace f n) 90) → channelAnswer v s ≡ channelPrevalidated f n
+unfolding channelPrevalidated
+channel-read-prevalidated f n v s e h = channel-same v s _ (bytes-valid v s _ h) ∙ rw e
 
-pub bank-read : (f : List ℕ) (n : ℕ) (v : Verdict) (s : List ℕ) → v ≡ placeRule f n (bankCount f)
-    → (v ≡ Good → BankLed f n) → s ≡ bytesAnswer v (part f (tablePlace f n) 34) → bankAnswer v s ≡ bankRead f n
+pub bank-read : (f : List ℕ) (n : ℕ) (v : Validity) (s : List ℕ) → v ≡ placeRule f n (bankCount f)
+    → (v ≡ Valid → BankLed f n) → s ≡ bytesAnswer v (part f (tablePlace f n) 34) → bankAnswer v s ≡ bankRead f n
 unfolding bankRead
-bank-read f n v s e led h = bank-same v s _ (λ g. bytes-good v s _ h g ∙ ap (λ (p : ℕ). part f p 34) (led g .1)) ∙ rw e
+bank-read f n v s e led h = bank-same v s _ (λ g. bytes-valid v s _ h g ∙ ap (λ (p : ℕ). part f p 34) (led g .1)) ∙ rw e
 
-pub bank-read-once : (f : List ℕ) (n : ℕ) (v : Verdict) (s : List ℕ) → v ≡ bankOnceRule f n
-    → s ≡ bytesAnswer v (part f (tablePlace f n) 34) → bankAnswer v s ≡ bankOnce f n
-unfolding bankOnce
-bank-read-once f n v s e h = bank-same v s _ (bytes-good v s _ h) ∙ rw e
+pub bank-read-prevalidated : (f : List ℕ) (n : ℕ) (v : Validity) (s : List ℕ) → v ≡ bankPrevalidatedRule f n
+    → s ≡ bytesAnswer v (part f (tablePlace f n) 34) → bankAnswer v s ≡ bankPrevalidated f n
+unfolding bankPrevalidated
+bank-read-prevalidated f n v s e h = bank-same v s _ (bytes-valid v s _ h) ∙ rw e

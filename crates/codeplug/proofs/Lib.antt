@@ -1,4 +1,4 @@
 -- Laws of the file's definitions, and what holds of an accepted file.
 pub mod Laws
-pub mod JudgedOnce
-pub mod Accepted
+pub mod Prevalidated
+pub mod AcceptedFile

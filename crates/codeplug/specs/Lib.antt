@@ -1,4 +1,4 @@
 -- The codeplug file: what its records are.
 pub mod Read
-pub mod Once
+pub mod Prevalidated
 pub mod There

@@ -4,8 +4,8 @@ use mathlib.Core.List.{List, []}
 use lib.Dec.{ltb}
 use Rattle.fields.specs.Bytes.{part, num, zeros}
 use Rattle.fields.specs.Rule.{_then_, unless}
-use Rattle.fields.specs.declared.rule.Verdict.{Verdict}
-use Rattle.fields.specs.declared.rule.Verdict.the-variants.{Good, Refused}
+use Rattle.fields.specs.declared.rule.Validity.{Validity}
+use Rattle.fields.specs.declared.rule.Validity.the-variants.{Valid, Refused}
 use Rattle.contact.specs.Contact.{contactAnswer}
 use Rattle.contact.specs.declared.ContactRead.{ContactRead}
 use Rattle.channel_reader.specs.Reading.{channelAnswer}
@@ -31,22 +31,22 @@ unfoldable pub blankHeader : Header
 blankHeader =
     record { author = zeros 32; description = zeros 32; timestamp = 0; counts = record { contacts = 0; channels = 0; banks = 0 } }
 
-unfoldable pub headerAnswer : Verdict → List ℕ → HeaderRead
-headerAnswer Good f = record { verdict = Good; header = headerOf f }
-headerAnswer (Refused n p) f = record { verdict = Refused n p; header = blankHeader }
+unfoldable pub headerAnswer : Validity → List ℕ → HeaderRead
+headerAnswer Valid f = record { validity = Valid; header = headerOf f }
+headerAnswer (Refused n p) f = record { validity = Refused n p; header = blankHeader }
 
 unfoldable pub headerRead : List ℕ → HeaderRead
 headerRead f = headerAnswer (fileRule f) f
 
 -- ---- record n of a file
 
--- the record's bytes beside its verdict: none beside a refusal
-unfoldable pub bytesAnswer : Verdict → List ℕ → List ℕ
-bytesAnswer Good s = s
+-- the record's bytes beside its validity: none beside a refusal
+unfoldable pub bytesAnswer : Validity → List ℕ → List ℕ
+bytesAnswer Valid s = s
 bytesAnswer (Refused n p) s = []
 
 -- the file's refusal, then 33 where there is no place n below the count
-unfoldable pub placeRule : List ℕ → ℕ → ℕ → Verdict
+unfoldable pub placeRule : List ℕ → ℕ → ℕ → Validity
 placeRule f n count = fileRule f then unless (ltb n count) 33 0
 
 unfoldable pub contactRead : List ℕ → ℕ → ContactRead
@@ -63,26 +63,26 @@ bankOf s = record { name = part s 0 32; entries = num s 32 2 }
 unfoldable pub blankBank : Bank
 blankBank = record { name = zeros 32; entries = 0 }
 
-unfoldable pub bankAnswer : Verdict → List ℕ → BankRead
-bankAnswer Good s = record { verdict = Good; bank = bankOf s }
-bankAnswer (Refused n p) s = record { verdict = Refused n p; bank = blankBank }
+unfoldable pub bankAnswer : Validity → List ℕ → BankRead
+bankAnswer Valid s = record { validity = Valid; bank = bankOf s }
+bankAnswer (Refused n p) s = record { validity = Refused n p; bank = blankBank }
 
 unfoldable pub bankRead : List ℕ → ℕ → BankRead
 bankRead f n = bankAnswer (placeRule f n (bankCount f)) (part f (bankPlace f n) 34)
 
 -- ---- bank entries, one at a time
 
--- the bytes of a good bank's entries, none beside a refusal
-unfoldable pub entriesAnswer : Verdict → List ℕ → ℕ → List ℕ
-entriesAnswer Good f p = part f (p + 34) (entryCount f p * 2)
+-- the bytes of a valid bank's entries, none beside a refusal
+unfoldable pub entriesAnswer : Validity → List ℕ → ℕ → List ℕ
+entriesAnswer Valid f p = part f (p + 34) (entryCount f p * 2)
 entriesAnswer (Refused n q) f p = []
 
 unfoldable pub entriesRead : List ℕ → ℕ → List ℕ
 entriesRead f n = entriesAnswer (placeRule f n (bankCount f)) f (bankPlace f n)
 
 -- entry i of bank n: the file's refusal, then 33
-unfoldable pub entryAnswer : Verdict → List ℕ → ℕ → EntryStep
-entryAnswer Good s i = entryStep s i
+unfoldable pub entryAnswer : Validity → List ℕ → ℕ → EntryStep
+entryAnswer Valid s i = entryStep s i
 entryAnswer (Refused n p) s i = step.Refused n p
 
 unfoldable pub entryRead : List ℕ → ℕ → ℕ → EntryStep

@@ -1,4 +1,4 @@
--- What a good verdict on record n comes with: a place below 65,536, and all of the record's bytes. No promise to a caller rests on these.
+-- What `Valid` on record n comes with: a place below 65,536, and all of the record's bytes. No promise to a caller rests on these.
 use mathlib.Core.Path.{_≡_}
 use Prim.Native.Nat.{ℕ, _≤_, _<_}
 use mathlib.Core.List.{List}
@@ -6,7 +6,7 @@ use lib.ListN.{length}
 use Rattle.fields.specs.Bytes.{part}
 use Rattle.layout.specs.Places.{contactPlace, channelPlace}
 use Rattle.layout.specs.Banks.{bankPlace}
-use Rattle.codeplug.specs.Once.{tablePlace}
+use Rattle.codeplug.specs.Prevalidated.{tablePlace}
 
 abbrev pub ContactThere : List ℕ → ℕ → Type 0
 ContactThere f n = (n < 65536) × (39 ≤ length (part f (contactPlace n) 39))

@@ -3,7 +3,7 @@ pub mod bank_entries; // bank_entries.rt: the entries of bank n
 pub mod bytes; // bytes.rt: the bytes of record n
 pub mod read; // read.rt: the header, contact n, channel n and bank n of a file
 
-use fields::rule::Verdict;
+use fields::rule::Validity;
 use layout::Counts;
 
 // The texts stand as in the file: a text, then zeros.
@@ -16,7 +16,7 @@ pub struct Header {
 
 // A reader's answer. Beside a refusal stands a blank header.
 pub struct HeaderRead {
-    pub verdict: Verdict,
+    pub validity: Validity,
     pub header: Header,
 }
 
@@ -28,6 +28,6 @@ pub struct Bank {
 
 // A reader's answer. Beside a refusal stands a blank bank.
 pub struct BankRead {
-    pub verdict: Verdict,
+    pub validity: Validity,
     pub bank: Bank,
 }

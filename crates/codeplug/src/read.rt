@@ -11,16 +11,17 @@ use contact::ContactRead;
 use fields::numbers::le16;
 use fields::numbers::le64;
 use fields::put::bytes32;
-use fields::rule::Verdict;
+use fields::rule::Validity;
 use fields::rule::first;
 use fields::rule::unless;
 use format::refusals::NO_PLACE;
+use format::sizes::ENTRY_COUNT_AT;
 use layout::Counts;
 use layout::places::bank_count;
 use layout::places::channel_count;
 use layout::places::contact_count;
 use layout::places::counts_of;
-use validation::judge::verdict_on;
+use validation::validity_of;
 ghost use mathlib.Core.Path.{_≡_};
 ghost use Prim.Native.Nat.{_≤_, _<_};
 ghost use lib.ListN.{length};
@@ -60,45 +61,45 @@ fn blank_header() -> Header
     }
 }
 
-// The answer for a verdict on a file; a good verdict comes only with the header's 88 bytes.
-pub fn header_answer(verdict: Verdict, f: &[u8]) -> HeaderRead
-    requires { ⌜ (verdict ≡ Verdict.Good → 88 ≤ length (now f)) ⌝ }
-    ensures { λ r. ⌜ r ≡ headerAnswer verdict (now (f .entry)) ⌝ }
+// The answer for a validity on a file; `Valid` comes only with the header's 88 bytes.
+pub fn header_answer(validity: Validity, f: &[u8]) -> HeaderRead
+    requires { ⌜ (validity ≡ Validity.Valid → 88 ≤ length (now f)) ⌝ }
+    ensures { λ r. ⌜ r ≡ headerAnswer validity (now (f .entry)) ⌝ }
 {
-    match verdict {
-        Verdict::Good => HeaderRead {
-            verdict: Verdict::Good,
+    match validity {
+        Validity::Valid => HeaderRead {
+            validity: Validity::Valid,
             header: header_of(f),
         },
-        Verdict::Refused(n, p) => HeaderRead {
-            verdict: Verdict::Refused(n, p),
+        Validity::Refused(n, p) => HeaderRead {
+            validity: Validity::Refused(n, p),
             header: blank_header(),
         },
     }
 }
 
-// The file's verdict, which is the header's.
-pub fn header_verdict(f: &[u8]) -> Verdict
-    ensures { λ r. ⌜ (r ≡ fileRule (now (f .entry))) × (r ≡ Verdict.Good → 88 ≤ length (now (f .entry))) ⌝ }
+// The file's validity, which is the header's.
+pub fn header_validity(f: &[u8]) -> Validity
+    ensures { λ r. ⌜ (r ≡ fileRule (now (f .entry))) × (r ≡ Validity.Valid → 88 ≤ length (now (f .entry))) ⌝ }
 {
-    verdict_on(f)
+    validity_of(f)
 }
 
 pub fn header(f: &[u8]) -> HeaderRead
     ensures { λ r. ⌜ r ≡ headerRead (now (f .entry)) ⌝ }
 {
-    header_answer(header_verdict(f), f)
+    header_answer(header_validity(f), f)
 }
 
 // The file's refusal, then 33 unless n is below the count.
-pub(crate) fn place(f: &[u8], n: usize, count: usize) -> Verdict
+pub(crate) fn place(f: &[u8], n: usize, count: usize) -> Validity
     ensures { λ r. ⌜ r ≡ placeRule (now (f .entry)) n count ⌝ }
 {
-    first(verdict_on(f), unless(n < count, NO_PLACE, 0))
+    first(validity_of(f), unless(n < count, NO_PLACE, 0))
 }
 
-pub fn contact_verdict(f: &[u8], n: usize) -> Verdict
-    ensures { λ r. ⌜ (r ≡ placeRule (now (f .entry)) n (contactCount (now (f .entry)))) × (r ≡ Verdict.Good → ContactThere (now (f .entry)) n) ⌝ }
+pub fn contact_validity(f: &[u8], n: usize) -> Validity
+    ensures { λ r. ⌜ (r ≡ placeRule (now (f .entry)) n (contactCount (now (f .entry)))) × (r ≡ Validity.Valid → ContactThere (now (f .entry)) n) ⌝ }
 {
     place(f, n, contact_count(f))
 }
@@ -106,12 +107,12 @@ pub fn contact_verdict(f: &[u8], n: usize) -> Verdict
 pub fn contact(f: &[u8], n: usize) -> ContactRead
     ensures { λ r. ⌜ r ≡ contactRead (now (f .entry)) n ⌝ }
 {
-    let verdict = contact_verdict(f, n);
-    contact_reader::answer(verdict, contact_bytes(f, n, verdict))
+    let validity = contact_validity(f, n);
+    contact_reader::answer(validity, contact_bytes(f, n, validity))
 }
 
-pub fn channel_verdict(f: &[u8], n: usize) -> Verdict
-    ensures { λ r. ⌜ (r ≡ placeRule (now (f .entry)) n (channelCount (now (f .entry)))) × (r ≡ Verdict.Good → ChannelThere (now (f .entry)) n) ⌝ }
+pub fn channel_validity(f: &[u8], n: usize) -> Validity
+    ensures { λ r. ⌜ (r ≡ placeRule (now (f .entry)) n (channelCount (now (f .entry)))) × (r ≡ Validity.Valid → ChannelThere (now (f .entry)) n) ⌝ }
 {
     place(f, n, channel_count(f))
 }
@@ -119,8 +120,8 @@ pub fn channel_verdict(f: &[u8], n: usize) -> Verdict
 pub fn channel(f: &[u8], n: usize) -> ChannelRead
     ensures { λ r. ⌜ r ≡ channelRead (now (f .entry)) n ⌝ }
 {
-    let verdict = channel_verdict(f, n);
-    channel_reader::answer(verdict, channel_bytes(f, n, verdict))
+    let validity = channel_validity(f, n);
+    channel_reader::answer(validity, channel_bytes(f, n, validity))
 }
 
 fn bank_of(s: &[u8]) -> Bank
@@ -129,7 +130,7 @@ fn bank_of(s: &[u8]) -> Bank
 {
     Bank {
         name: bytes32(s, 0),
-        entries: le16(s, 32),
+        entries: le16(s, ENTRY_COUNT_AT),
     }
 }
 
@@ -142,25 +143,25 @@ fn blank_bank() -> Bank
     }
 }
 
-// The answer for a verdict on a bank's bytes; a good verdict comes only with the first 34 of them.
-pub fn bank_answer(verdict: Verdict, s: &[u8]) -> BankRead
-    requires { ⌜ (verdict ≡ Verdict.Good → 34 ≤ length (now s)) ⌝ }
-    ensures { λ r. ⌜ r ≡ bankAnswer verdict (now (s .entry)) ⌝ }
+// The answer for a validity on a bank's bytes; `Valid` comes only with the first 34 of them.
+pub fn bank_answer(validity: Validity, s: &[u8]) -> BankRead
+    requires { ⌜ (validity ≡ Validity.Valid → 34 ≤ length (now s)) ⌝ }
+    ensures { λ r. ⌜ r ≡ bankAnswer validity (now (s .entry)) ⌝ }
 {
-    match verdict {
-        Verdict::Good => BankRead {
-            verdict: Verdict::Good,
+    match validity {
+        Validity::Valid => BankRead {
+            validity: Validity::Valid,
             bank: bank_of(s),
         },
-        Verdict::Refused(n, p) => BankRead {
-            verdict: Verdict::Refused(n, p),
+        Validity::Refused(n, p) => BankRead {
+            validity: Validity::Refused(n, p),
             bank: blank_bank(),
         },
     }
 }
 
-pub fn bank_verdict(f: &[u8], n: usize) -> Verdict
-    ensures { λ r. ⌜ (r ≡ placeRule (now (f .entry)) n (bankCount (now (f .entry)))) × (r ≡ Verdict.Good → BankLed (now (f .entry)) n) ⌝ }
+pub fn bank_validity(f: &[u8], n: usize) -> Validity
+    ensures { λ r. ⌜ (r ≡ placeRule (now (f .entry)) n (bankCount (now (f .entry)))) × (r ≡ Validity.Valid → BankLed (now (f .entry)) n) ⌝ }
 {
     place(f, n, bank_count(f))
 }
@@ -169,6 +170,6 @@ pub fn bank_verdict(f: &[u8], n: usize) -> Verdict
 pub fn bank(f: &[u8], n: usize) -> BankRead
     ensures { λ r. ⌜ r ≡ bankRead (now (f .entry)) n ⌝ }
 {
-    let verdict = bank_verdict(f, n);
-    bank_answer(verdict, bank_bytes(f, n, verdict))
+    let validity = bank_validity(f, n);
+    bank_answer(validity, bank_bytes(f, n, validity))
 }

@@ -1,8 +1,8 @@
-// Judges the codeplug on standard input and prints one line: "ok", with the counts of contacts, channels and banks, or the refusal
+// Validates the codeplug on standard input and prints one line: "ok", with the counts of contacts, channels and banks, or the refusal
 // and its place. It takes at most 65,536 bytes.
 use libc::STDIN_FILENO;
 use libc::STDOUT_FILENO;
-use validation::Judged;
+use validation::Validated;
 
 fn print_refusal(number: u8, place: usize) {
     io::write_all(STDOUT_FILENO, b"refused ");
@@ -17,16 +17,16 @@ fn print_count(n: u16) {
     io::print_decimal(STDOUT_FILENO, n as u64);
 }
 
-fn print_judgement(j: Judged) {
+fn print_validated(j: Validated) {
     match j {
-        Judged::Accepted(c) => {
+        Validated::Accepted(c) => {
             io::write_all(STDOUT_FILENO, b"ok");
             print_count(c.contacts);
             print_count(c.channels);
             print_count(c.banks);
             io::write_all(STDOUT_FILENO, b"\n");
         }
-        Judged::Refused(number, place) => print_refusal(number, place),
+        Validated::Refused(number, place) => print_refusal(number, place),
     }
 }
 
@@ -43,5 +43,5 @@ fn main() {
         print_refusal(1, 0);
         return;
     }
-    print_judgement(validation::judge::judge(&buffer[..n]));
+    print_validated(validation::validate(&buffer[..n]));
 }

@@ -1,4 +1,4 @@
--- Laws of contact records: what a good rule says of the bytes and what makes it good, what a writer accepts, how its steps make
+-- Laws of contact records: what a rule that gives `Valid` says of the bytes and what makes it so, what a writer accepts, how its steps make
 -- the record, and that only the record's own bytes count.
 use Prim.Native.Nat.{ℕ, _+_, _-_, _≤_, _<_}
 use mathlib.Core.Path.{_≡_, refl, sym, _∙_}
@@ -14,111 +14,111 @@ use lib.Seq.{getD-take, drop-drop, drop-at, take-at}
 use Rattle.fields.specs.Bytes.{part, big, zeros, over, littleBytes, bigBytes}
 use Rattle.text.specs.Text.{textOk, givenOk, padded}
 use Rattle.fields.specs.Rule.{fieldOf}
-use Rattle.fields.specs.declared.rule.Verdict.the-variants.{Good}
-use Rattle.fields.proofs.Laws.{then-good, both-good, unless-good, unless-passes, field-good, field-passes}
+use Rattle.fields.specs.declared.rule.Validity.the-variants.{Valid}
+use Rattle.fields.proofs.Laws.{then-valid, both-valid, unless-valid, unless-passes, field-valid, field-passes}
 use Rattle.fields.proofs.Laws.{part-part, over-zero, drop-zeros, zeros-append, length-zeros, over-then}
 use Rattle.fields.proofs.Laws.{Long, long-byte, long-append, long-little, long-big}
 use Rattle.text.proofs.Laws.{length-padded, givenOk-length}
-use Rattle.bits.specs.Packed.{choiceOk, choiceByte, choiceGood}
-use Rattle.m17.specs.Address.{addressOk, addressNumber, addressGood}
+use Rattle.bits.specs.Packed.{numberFlagOk, numberFlagByte, numberFlagValid}
+use Rattle.m17.specs.Address.{addressOk, addressNumber, addressValid}
 use Rattle.m17.specs.declared.Address.{Address}
 use Rattle.contact.specs.declared.ContactInfo.{ContactInfo}
 use Rattle.contact.specs.declared.ContactInfo.the-variants.{M17, Dmr}
 use Rattle.contact.specs.declared.DmrContact.{DmrContact}
 use Rattle.contact.specs.Contact.{modeOk, dmrRule, m17Rule, contactRule}
 use Rattle.contact.specs.Contact.{infoOf, contactOf}
-use Rattle.contact.specs.Contact.{infoBytes, contactBytes, settingsChoice, infoGiven, contactGiven}
+use Rattle.contact.specs.Contact.{infoBytes, contactBytes, settingsNumberFlag, infoWriteRule, contactWriteRule}
 
--- ---- what a good rule says
+-- ---- what a rule that gives `Valid` says
 
-pub record GoodDmr (s : List ℕ) : Type 0 where
+pub record ValidDmr (s : List ℕ) : Type 0 where
   pub whole : 39 ≤ length s
   pub mode : getD s 32 0 ≡ 1
-  pub settings : choiceOk (getD s 37 0) ≡ true
+  pub settings : numberFlagOk (getD s 37 0) ≡ true
   pub pad : getD s 38 0 ≡ 0
 
-pub record GoodM17 (s : List ℕ) : Type 0 where
+pub record ValidM17 (s : List ℕ) : Type 0 where
   pub whole : 39 ≤ length s
   pub mode : getD s 32 0 ≡ 2
   pub address : addressOk (big (part s 33 6)) ≡ true
 
-abbrev pub GoodInfo : List ℕ → Type 0
-GoodInfo s = GoodDmr s ⊎ GoodM17 s
+abbrev pub ValidInfo : List ℕ → Type 0
+ValidInfo s = ValidDmr s ⊎ ValidM17 s
 
-dmr-good : (s : List ℕ) (base : ℕ) → getD s 32 0 ≡ 1 → dmrRule s base ≡ Good → GoodDmr s
+dmr-valid : (s : List ℕ) (base : ℕ) → getD s 32 0 ≡ 1 → dmrRule s base ≡ Valid → ValidDmr s
 unfolding dmrRule
-dmr-good s base m h =
-    let a = then-good _ _ h in
-    let b = then-good _ _ (a .1) in
-    let set = field-good _ _ _ _ _ _ (b .0) in
-    let pad = field-good _ _ _ _ _ _ (b .1) in
+dmr-valid s base m h =
+    let a = then-valid _ _ h in
+    let b = then-valid _ _ (a .1) in
+    let set = field-valid _ _ _ _ _ _ (b .0) in
+    let pad = field-valid _ _ _ _ _ _ (b .1) in
     record { whole = pad .0; mode = m; settings = set .1; pad = eqb-true _ _ (pad .1) }
 
-m17-good : (s : List ℕ) (base : ℕ) → getD s 32 0 ≡ 2 → m17Rule s base ≡ Good → GoodM17 s
+m17-valid : (s : List ℕ) (base : ℕ) → getD s 32 0 ≡ 2 → m17Rule s base ≡ Valid → ValidM17 s
 unfolding m17Rule
-m17-good s base m h = let a = field-good _ _ _ _ _ _ h in record { whole = a .0; mode = m; address = a .1 }
+m17-valid s base m h = let a = field-valid _ _ _ _ _ _ h in record { whole = a .0; mode = m; address = a .1 }
 
-info-good : (s : List ℕ) (base : ℕ) (t : Bool) → eqb (getD s 32 0) 1 ≡ t → modeOk (getD s 32 0) ≡ true
-    → cond t (dmrRule s base) (m17Rule s base) ≡ Good → GoodInfo s
+info-valid : (s : List ℕ) (base : ℕ) (t : Bool) → eqb (getD s 32 0) 1 ≡ t → modeOk (getD s 32 0) ≡ true
+    → cond t (dmrRule s base) (m17Rule s base) ≡ Valid → ValidInfo s
 unfolding modeOk
-info-good s base true e m h = inl (dmr-good s base (eqb-true _ _ e) h)
-info-good s base false e m h = inr (m17-good s base (eqb-true _ _ (rw e at m)) h)
+info-valid s base true e m h = inl (dmr-valid s base (eqb-true _ _ e) h)
+info-valid s base false e m h = inr (m17-valid s base (eqb-true _ _ (rw e at m)) h)
 
-pub contact-good : (s : List ℕ) (base : ℕ) → contactRule s base ≡ Good → (textOk (part s 0 32) ≡ true) × GoodInfo s
+pub contact-valid : (s : List ℕ) (base : ℕ) → contactRule s base ≡ Valid → (textOk (part s 0 32) ≡ true) × ValidInfo s
 unfolding contactRule
-contact-good s base h =
-    let a = then-good _ _ h in
-    let b = then-good _ _ (a .1) in
-    let name = field-good _ _ _ _ _ _ (a .0) in
-    let mode = field-good _ _ _ _ _ _ (b .0) in
-    (name .1, info-good s base (eqb (getD s 32 0) 1) refl (mode .1) (b .1))
+contact-valid s base h =
+    let a = then-valid _ _ h in
+    let b = then-valid _ _ (a .1) in
+    let name = field-valid _ _ _ _ _ _ (a .0) in
+    let mode = field-valid _ _ _ _ _ _ (b .0) in
+    (name .1, info-valid s base (eqb (getD s 32 0) 1) refl (mode .1) (b .1))
 
--- ---- and what makes it good
+-- ---- and what makes it so
 
 module _ (s : List ℕ) (base : ℕ) (text : textOk (part s 0 32) ≡ true) where
-  pub dmr-passes : GoodDmr s → contactRule s base ≡ Good
+  pub dmr-passes : ValidDmr s → contactRule s base ≡ Valid
   unfolding contactRule modeOk dmrRule
   dmr-passes g =
       let w = g .whole in
       let m = eq-eqb _ 1 (g .mode) in
-      both-good _ _ (field-passes _ _ _ _ _ _ (omega arith) text)
-      (both-good _ _ (field-passes _ _ _ _ _ _ (omega arith) (rw m))
+      both-valid _ _ (field-passes _ _ _ _ _ _ (omega arith) text)
+      (both-valid _ _ (field-passes _ _ _ _ _ _ (omega arith) (rw m))
       (rw m
-      (both-good _ _ (field-passes _ _ _ _ _ _ (omega arith) refl)
-      (both-good _ _ (field-passes _ _ _ _ _ _ (omega arith) (g .settings))
+      (both-valid _ _ (field-passes _ _ _ _ _ _ (omega arith) refl)
+      (both-valid _ _ (field-passes _ _ _ _ _ _ (omega arith) (g .settings))
       (field-passes _ _ _ _ _ _ w (eq-eqb _ 0 (g .pad)))))))
 
-  pub m17-passes : GoodM17 s → contactRule s base ≡ Good
+  pub m17-passes : ValidM17 s → contactRule s base ≡ Valid
   unfolding contactRule modeOk m17Rule
   m17-passes g =
       let w = g .whole in
-      both-good _ _ (field-passes _ _ _ _ _ _ (omega arith) text)
-      (both-good _ _ (field-passes _ _ _ _ _ _ (omega arith) (rw (g .mode)))
+      both-valid _ _ (field-passes _ _ _ _ _ _ (omega arith) text)
+      (both-valid _ _ (field-passes _ _ _ _ _ _ (omega arith) (rw (g .mode)))
       (rw (g .mode) (field-passes _ _ _ _ _ _ w (g .address))))
 
 -- ---- what a writer accepts
 
-pub given-good : (room : ℕ) (name : List ℕ) (info : ContactInfo) → contactGiven room name info ≡ Good
-    → (39 ≤ room) × (givenOk name ≡ true) × (infoGiven info ≡ Good)
-unfolding contactGiven
-given-good room name info h =
-    let a = then-good _ _ h in
-    let b = then-good _ _ (a .1) in
-    (leb-true 39 room (unless-good _ _ _ (a .0)), unless-good _ _ _ (b .0), b .1)
+pub given-valid : (room : ℕ) (name : List ℕ) (info : ContactInfo) → contactWriteRule room name info ≡ Valid
+    → (39 ≤ room) × (givenOk name ≡ true) × (infoWriteRule info ≡ Valid)
+unfolding contactWriteRule
+given-valid room name info h =
+    let a = then-valid _ _ h in
+    let b = then-valid _ _ (a .1) in
+    (leb-true 39 room (unless-valid _ _ _ (a .0)), unless-valid _ _ _ (b .0), b .1)
 
-pub given-passes : (room : ℕ) (name : List ℕ) (info : ContactInfo) → 39 ≤ room → givenOk name ≡ true → infoGiven info ≡ Good
-    → contactGiven room name info ≡ Good
-unfolding contactGiven
-given-passes room name info r n i =
-    both-good _ _ (unless-passes _ 25 0 (le-leb 39 room r)) (both-good _ _ (unless-passes _ 5 0 n) i)
+pub rule-passes : (room : ℕ) (name : List ℕ) (info : ContactInfo) → 39 ≤ room → givenOk name ≡ true → infoWriteRule info ≡ Valid
+    → contactWriteRule room name info ≡ Valid
+unfolding contactWriteRule
+rule-passes room name info r n i =
+    both-valid _ _ (unless-passes _ 25 0 (le-leb 39 room r)) (both-valid _ _ (unless-passes _ 5 0 n) i)
 
-pub m17-given : (a : Address) → infoGiven (M17 a) ≡ Good → addressGood a ≡ true
-unfolding infoGiven
-m17-given a h = unless-good _ _ _ h
+pub m17-writable : (a : Address) → infoWriteRule (M17 a) ≡ Valid → addressValid a ≡ true
+unfolding infoWriteRule
+m17-writable a h = unless-valid _ _ _ h
 
-pub dmr-given : (d : DmrContact) → infoGiven (Dmr d) ≡ Good → choiceGood (settingsChoice (d .settings)) ≡ true
-unfolding infoGiven
-dmr-given d h = unless-good _ _ _ h
+pub dmr-writable : (d : DmrContact) → infoWriteRule (Dmr d) ≡ Valid → numberFlagValid (settingsNumberFlag (d .settings)) ≡ true
+unfolding infoWriteRule
+dmr-writable d h = unless-valid _ _ _ h
 
 -- ---- the writer's steps
 
@@ -138,7 +138,7 @@ put-m17 d o p a x l e f g =
 
 -- o is the record after the mode, p after the id, q after the settings
 pub put-dmr : (d o p q : List ℕ) (r : DmrContact) (b : ℕ) → length d ≡ 39 → drop 32 d ≡ zeros 7 → o ≡ over d 32 (1 ∷ [])
-    → p ≡ over o 33 (littleBytes 4 (r .id)) → q ≡ over p 37 (b ∷ []) → b ≡ choiceByte (settingsChoice (r .settings))
+    → p ≡ over o 33 (littleBytes 4 (r .id)) → q ≡ over p 37 (b ∷ []) → b ≡ numberFlagByte (settingsNumberFlag (r .settings))
     → q ≡ take 32 d ++ infoBytes (Dmr r)
 unfolding infoBytes zeros
 put-dmr d o p q r b l z e f g h =
@@ -179,7 +179,7 @@ pub length-infoBytes : (info : ContactInfo) → length (infoBytes info) ≡ 7
 unfolding infoBytes
 length-infoBytes (M17 a) = long-append (long-byte 2) (long-big 6 (addressNumber a)) .long
 length-infoBytes (Dmr d) =
-    let b = choiceByte (settingsChoice (d .settings)) in
+    let b = numberFlagByte (settingsNumberFlag (d .settings)) in
     long-append (long-byte 1) (long-append (long-little 4 (d .id)) (long-append (long-byte b) (long-byte 0))) .long
 
 pub length-contactBytes : (name : List ℕ) (info : ContactInfo) → length name ≤ 32 → length (contactBytes name info) ≡ 39

@@ -1,5 +1,5 @@
--- Writing and reading undo each other, and a writer accepts exactly the values that good records hold. All stated over
--- specs/Contact.antt: `contactRule` is what `judge` answers, `contactOf` what `read` gives of a good record, `contactGiven` what
+-- Writing and reading undo each other, and a writer accepts exactly the values that valid records hold. All stated over
+-- specs/Contact.antt: `contactRule` is what `validate` answers, `contactOf` what `read` gives of a valid record, `contactWriteRule` what
 -- `write` answers, and `contactBytes` what it writes.
 use Prim.Native.Nat.{ℕ, _-_, _^_, _≤_, _<_}
 use mathlib.Core.Path.{_≡_, refl, ap, sym, _∙_}
@@ -11,30 +11,30 @@ use lib.Dec.{eqb}
 use lib.ListN.{length, getD, take}
 use Rattle.fields.specs.Bytes.{part, num, big, zeros, littleBytes, bigBytes}
 use Rattle.text.specs.Text.{textOk, textOf, givenOk, padded}
-use Rattle.fields.specs.declared.rule.Verdict.the-variants.{Good}
+use Rattle.fields.specs.declared.rule.Validity.the-variants.{Valid}
 use Rattle.fields.proofs.Laws.{AllBytes, bytes-cons, bytes-nil, bytes-append, bytes-zeros, bytes-part, bytes-littleBytes, bytes-bigBytes}
 use Rattle.fields.proofs.Laws.{Long, part-front, part-skip, getD-skip, num-skip, part-all, part-add, part-cons, length-part}
 use Rattle.fields.proofs.Laws.{long-little, num-front, num-lt, length-bigBytes, big-bigBytes, littleBytes-num, bigBytes-big, unless-passes}
 use Rattle.text.proofs.Laws.{length-padded, givenOk-length, givenOk-plain, textOk-padded, textOf-padded}
 use Rattle.text.proofs.Laws.{given-textOf, padded-textOf, plainText-bytes}
-use Rattle.bits.specs.Packed.{choiceOf, choiceByte}
-use Rattle.bits.proofs.Laws.{choice-returns, choice-ok, choiceByte-of, choiceGood-of, choiceByte-lt}
-use Rattle.m17.specs.Address.{addressFor, addressNumber, addressGood}
+use Rattle.bits.specs.Packed.{numberFlagOf, numberFlagByte}
+use Rattle.bits.proofs.Laws.{number-flag-returns, number-flag-ok, numberFlagByte-of, numberFlagValid-of, numberFlagByte-lt}
+use Rattle.m17.specs.Address.{addressFor, addressNumber, addressValid}
 use Rattle.m17.specs.declared.Address.{Address}
-use Rattle.m17.proofs.Laws.{addressNumber-for, addressFor-number, addressGood-for, addressOk-number, addressNumber-lt}
+use Rattle.m17.proofs.Laws.{addressNumber-for, addressFor-number, addressValid-for, addressOk-number, addressNumber-lt}
 use Rattle.contact.specs.declared.Settings.{Settings}
 use Rattle.contact.specs.declared.DmrContact.{DmrContact}
 use Rattle.contact.specs.declared.ContactInfo.{ContactInfo}
 use Rattle.contact.specs.declared.ContactInfo.the-variants.{M17, Dmr}
-use Rattle.contact.specs.Contact.{contactRule, infoOf, contactOf, settingsOf, settingsChoice}
-use Rattle.contact.specs.Contact.{infoGiven, contactGiven, infoBytes, contactBytes}
-use Rattle.contact.proofs.Laws.{GoodDmr, GoodM17, contact-good, dmr-passes, m17-passes}
-use Rattle.contact.proofs.Laws.{given-good, given-passes, m17-given, dmr-given, length-contactBytes}
+use Rattle.contact.specs.Contact.{contactRule, infoOf, contactOf, settingsOf, settingsNumberFlag}
+use Rattle.contact.specs.Contact.{infoWriteRule, contactWriteRule, infoBytes, contactBytes}
+use Rattle.contact.proofs.Laws.{ValidDmr, ValidM17, contact-valid, dmr-passes, m17-passes}
+use Rattle.contact.proofs.Laws.{given-valid, rule-passes, m17-writable, dmr-writable, length-contactBytes}
 
--- ---- a good record has all its bytes
+-- ---- a valid record has all its bytes
 
-pub good-length : (s : List ℕ) (base : ℕ) → contactRule s base ≡ Good → 39 ≤ length s
-good-length s base h = ⊎-elim (λ d. d .whole) (λ m. m .whole) (contact-good s base h .1)
+pub valid-length : (s : List ℕ) (base : ℕ) → contactRule s base ≡ Valid → 39 ≤ length s
+valid-length s base h = ⊎-elim (λ d. d .whole) (λ m. m .whole) (contact-valid s base h .1)
 
 -- ---- write, then read
 
@@ -53,9 +53,9 @@ read-fits s b = by (eqb (getD s 32 0) 1)
     by true = num-lt s 33 4 b
     by false = tt
 
-settings-choice : (t : Settings) → choiceOf (choiceByte (settingsChoice t)) ≡ settingsChoice t → settingsOf (choiceByte (settingsChoice t)) ≡ t
-unfolding settingsOf settingsChoice
-settings-choice t e = rw e
+settings-number-flag : (t : Settings) → numberFlagOf (numberFlagByte (settingsNumberFlag t)) ≡ settingsNumberFlag t → settingsOf (numberFlagByte (settingsNumberFlag t)) ≡ t
+unfolding settingsOf settingsNumberFlag
+settings-number-flag t e = rw e
 
 -- what reading finds in a written record
 module _ (name : List ℕ) (given : givenOk name ≡ true) where
@@ -68,7 +68,7 @@ module _ (name : List ℕ) (given : givenOk name ≡ true) where
   text-back : (b : List ℕ) → textOk (part (padded name ++ b) 0 32) ≡ true
   text-back b = rw (name-back b) (textOk-padded name given)
 
-  m17-back : (a : Address) → addressGood a ≡ true → big (part (padded name ++ infoBytes (M17 a)) 33 6) ≡ addressNumber a
+  m17-back : (a : Address) → addressValid a ≡ true → big (part (padded name ++ infoBytes (M17 a)) 33 6) ≡ addressNumber a
   unfolding infoBytes
   m17-back a g =
       let n = addressNumber a in
@@ -78,19 +78,19 @@ module _ (name : List ℕ) (given : givenOk name ≡ true) where
   id-back : (d : DmrContact) → d .id < 2 ^ 32 → num (padded name ++ infoBytes (Dmr d)) 33 4 ≡ d .id
   unfolding infoBytes
   id-back d fits =
-      let rest = choiceByte (settingsChoice (d .settings)) ∷ 0 ∷ [] in
+      let rest = numberFlagByte (settingsNumberFlag (d .settings)) ∷ 0 ∷ [] in
       num-skip long-name (1 ∷ (littleBytes 4 (d .id) ++ rest)) 1 4 ∙ num-front rest 4 (d .id) fits
 
-  settings-back : (d : DmrContact) → getD (padded name ++ infoBytes (Dmr d)) 37 0 ≡ choiceByte (settingsChoice (d .settings))
+  settings-back : (d : DmrContact) → getD (padded name ++ infoBytes (Dmr d)) 37 0 ≡ numberFlagByte (settingsNumberFlag (d .settings))
   unfolding infoBytes
   settings-back d =
-      let rest = choiceByte (settingsChoice (d .settings)) ∷ 0 ∷ [] in
+      let rest = numberFlagByte (settingsNumberFlag (d .settings)) ∷ 0 ∷ [] in
       getD-skip long-name (1 ∷ (littleBytes 4 (d .id) ++ rest)) 5 ∙ getD-skip (long-little 4 (d .id)) rest 0
 
   pad-back : (d : DmrContact) → getD (padded name ++ infoBytes (Dmr d)) 38 0 ≡ 0
   unfolding infoBytes
   pad-back d =
-      let rest = choiceByte (settingsChoice (d .settings)) ∷ 0 ∷ [] in
+      let rest = numberFlagByte (settingsNumberFlag (d .settings)) ∷ 0 ∷ [] in
       getD-skip long-name (1 ∷ (littleBytes 4 (d .id) ++ rest)) 6 ∙ getD-skip (long-little 4 (d .id)) rest 1
 
   mode-m17 : (a : Address) → getD (padded name ++ infoBytes (M17 a)) 32 0 ≡ 2
@@ -105,9 +105,9 @@ module _ (name : List ℕ) (given : givenOk name ≡ true) where
   unfolding contactBytes
   whole info = omega (arith, length-contactBytes name info (givenOk-length name given))
 
-  rule-back : (base : ℕ) (info : ContactInfo) → infoGiven info ≡ Good → contactRule (padded name ++ infoBytes info) base ≡ Good
+  rule-back : (base : ℕ) (info : ContactInfo) → infoWriteRule info ≡ Valid → contactRule (padded name ++ infoBytes info) base ≡ Valid
   rule-back base (M17 a) i =
-      let g = m17-given a i in
+      let g = m17-writable a i in
       m17-passes _ base (text-back _)
       (record { whole = whole (M17 a); mode = mode-m17 a; address = rw (m17-back a g) (addressOk-number a g) })
   rule-back base (Dmr d) i =
@@ -115,42 +115,42 @@ module _ (name : List ℕ) (given : givenOk name ≡ true) where
       (record {
         whole = whole (Dmr d);
         mode = mode-dmr d;
-        settings = rw (settings-back d) (choice-ok _ (dmr-given d i));
+        settings = rw (settings-back d) (number-flag-ok _ (dmr-writable d i));
         pad = pad-back d;
       })
 
-  info-back : (info : ContactInfo) → IdFits info → infoGiven info ≡ Good → infoOf (padded name ++ infoBytes info) ≡ info
+  info-back : (info : ContactInfo) → IdFits info → infoWriteRule info ≡ Valid → infoOf (padded name ++ infoBytes info) ≡ info
   unfolding infoOf
   info-back (M17 a) f i =
-      let g = m17-given a i in
+      let g = m17-writable a i in
       rw (mode-m17 a, m17-back a g, addressFor-number a g)
   info-back (Dmr d) f i =
-      rw (mode-dmr d, id-back d f, settings-back d, settings-choice (d .settings) (choice-returns _ (dmr-given d i)))
+      rw (mode-dmr d, id-back d f, settings-back d, settings-number-flag (d .settings) (number-flag-returns _ (dmr-writable d i)))
 
 -- a written record has 39 bytes
-pub record-length : (name : List ℕ) (info : ContactInfo) → contactGiven 39 name info ≡ Good → length (contactBytes name info) ≡ 39
-record-length name info h = length-contactBytes name info (givenOk-length name (given-good 39 name info h .1))
+pub record-length : (name : List ℕ) (info : ContactInfo) → contactWriteRule 39 name info ≡ Valid → length (contactBytes name info) ≡ 39
+record-length name info h = length-contactBytes name info (givenOk-length name (given-valid 39 name info h .1))
 
--- it is good wherever it stands in a file
-pub record-good : (name : List ℕ) (info : ContactInfo) (base : ℕ) → contactGiven 39 name info ≡ Good
-    → contactRule (contactBytes name info) base ≡ Good
+-- it is valid wherever it stands in a file
+pub record-valid : (name : List ℕ) (info : ContactInfo) (base : ℕ) → contactWriteRule 39 name info ≡ Valid
+    → contactRule (contactBytes name info) base ≡ Valid
 unfolding contactBytes
-record-good name info base h = let g = given-good 39 name info h in rule-back name (g .1) base info (g .2)
+record-valid name info base h = let g = given-valid 39 name info h in rule-back name (g .1) base info (g .2)
 
 -- a value that is written is read again
-pub write-then-read : (name : List ℕ) (info : ContactInfo) → IdFits info → contactGiven 39 name info ≡ Good
-    → (contactRule (contactBytes name info) 0 ≡ Good)
+pub write-then-read : (name : List ℕ) (info : ContactInfo) → IdFits info → contactWriteRule 39 name info ≡ Valid
+    → (contactRule (contactBytes name info) 0 ≡ Valid)
     × (contactOf (contactBytes name info) ≡ record { name = padded name; info = info })
 unfolding contactOf contactBytes
 write-then-read name info fits h =
-    let g = given-good 39 name info h in
-    (record-good name info 0 h, rw (name-back name (g .1) (infoBytes info), info-back name (g .1) info fits (g .2)))
+    let g = given-valid 39 name info h in
+    (record-valid name info 0 h, rw (name-back name (g .1) (infoBytes info), info-back name (g .1) info fits (g .2)))
 
 -- ---- read, then write
 
-choice-settings : (b : ℕ) → settingsChoice (settingsOf b) ≡ choiceOf b
-unfolding settingsChoice settingsOf choiceOf
-choice-settings b = refl
+number-flag-settings : (b : ℕ) → settingsNumberFlag (settingsOf b) ≡ numberFlagOf b
+unfolding settingsNumberFlag settingsOf numberFlagOf
+number-flag-settings b = refl
 
 module _ (s : List ℕ) (whole : 39 ≤ length s) where
   -- the six bytes behind the mode, as DMR has them
@@ -171,76 +171,76 @@ module _ (s : List ℕ) (whole : 39 ≤ length s) where
   name-given : textOk (part s 0 32) ≡ true → givenOk (textOf (part s 0 32)) ≡ true
   name-given t = given-textOf (part s 0 32) t (length-part s 0 32 (omega arith))
 
-dmr-bytes : (s : List ℕ) → AllBytes s → GoodDmr s → infoBytes (infoOf s) ≡ getD s 32 0 ∷ part s 33 6
+dmr-bytes : (s : List ℕ) → AllBytes s → ValidDmr s → infoBytes (infoOf s) ≡ getD s 32 0 ∷ part s 33 6
 unfolding infoBytes infoOf
 dmr-bytes s b g =
     rw (
       g .mode,
-      choice-settings (getD s 37 0),
-      choiceByte-of (getD s 37 0) (g .settings) (b 37),
+      number-flag-settings (getD s 37 0),
+      numberFlagByte-of (getD s 37 0) (g .settings) (b 37),
       littleBytes-num s 33 4 b (omega (arith, g .whole)),
       dmr-part s (g .whole),
       g .pad,
     )
 
-m17-bytes : (s : List ℕ) → AllBytes s → GoodM17 s → infoBytes (infoOf s) ≡ getD s 32 0 ∷ part s 33 6
+m17-bytes : (s : List ℕ) → AllBytes s → ValidM17 s → infoBytes (infoOf s) ≡ getD s 32 0 ∷ part s 33 6
 unfolding infoBytes infoOf
 m17-bytes s b g = rw (g .mode, addressNumber-for (big (part s 33 6)), address-bytes s (g .whole) b)
 
-dmr-info-given : (s : List ℕ) → GoodDmr s → infoGiven (infoOf s) ≡ Good
-unfolding infoGiven infoOf
+dmr-info-given : (s : List ℕ) → ValidDmr s → infoWriteRule (infoOf s) ≡ Valid
+unfolding infoWriteRule infoOf
 dmr-info-given s g =
-    rw (g .mode, choice-settings (getD s 37 0)) (unless-passes _ 7 37 (choiceGood-of (getD s 37 0) (g .settings)))
+    rw (g .mode, number-flag-settings (getD s 37 0)) (unless-passes _ 7 37 (numberFlagValid-of (getD s 37 0) (g .settings)))
 
-m17-info-given : (s : List ℕ) → GoodM17 s → infoGiven (infoOf s) ≡ Good
-unfolding infoGiven infoOf
-m17-info-given s g = rw (g .mode) (unless-passes _ 8 33 (addressGood-for (big (part s 33 6)) (g .address)))
+m17-info-given : (s : List ℕ) → ValidM17 s → infoWriteRule (infoOf s) ≡ Valid
+unfolding infoWriteRule infoOf
+m17-info-given s g = rw (g .mode) (unless-passes _ 8 33 (addressValid-for (big (part s 33 6)) (g .address)))
 
--- a good record's values are accepted, and written they are the record again
-pub read-then-write : (s : List ℕ) (base : ℕ) → AllBytes s → contactRule s base ≡ Good
-    → (contactGiven 39 (textOf (contactOf s .name)) (contactOf s .info) ≡ Good)
+-- a valid record's values are accepted, and written they are the record again
+pub read-then-write : (s : List ℕ) (base : ℕ) → AllBytes s → contactRule s base ≡ Valid
+    → (contactWriteRule 39 (textOf (contactOf s .name)) (contactOf s .info) ≡ Valid)
     × (contactBytes (textOf (contactOf s .name)) (contactOf s .info) ≡ take 39 s)
 unfolding contactOf contactBytes
 read-then-write s base b h =
-    let g = contact-good s base h in
-    let w = good-length s base h in
+    let g = contact-valid s base h in
+    let w = valid-length s base h in
     let given = ⊎-elim (dmr-info-given s) (m17-info-given s) (g .1) in
     let bytes = ⊎-elim (dmr-bytes s b) (m17-bytes s b) (g .1) in (
-      given-passes 39 (textOf (part s 0 32)) (infoOf s) (omega arith) (name-given s w (g .0)) given,
+      rule-passes 39 (textOf (part s 0 32)) (infoOf s) (omega arith) (name-given s w (g .0)) given,
       rw (name-bytes s w (g .0), bytes) (sym (info-part s w)),
     )
 
 -- ---- what a writer refuses
 
-info-all-bytes : (info : ContactInfo) → infoGiven info ≡ Good → AllBytes (infoBytes info)
+info-all-bytes : (info : ContactInfo) → infoWriteRule info ≡ Valid → AllBytes (infoBytes info)
 unfolding infoBytes
 info-all-bytes (M17 a) i = bytes-cons 2 (bigBytes 6 (addressNumber a)) (omega arith) (bytes-bigBytes 6 (addressNumber a))
 info-all-bytes (Dmr d) i =
-    let b = choiceByte (settingsChoice (d .settings)) in
+    let b = numberFlagByte (settingsNumberFlag (d .settings)) in
     bytes-cons 1 (littleBytes 4 (d .id) ++ (b ∷ 0 ∷ [])) (omega arith)
     (bytes-append (littleBytes 4 (d .id)) (b ∷ 0 ∷ []) (bytes-littleBytes 4 (d .id))
-    (bytes-cons b (0 ∷ []) (choiceByte-lt _ (dmr-given d i)) (bytes-cons 0 [] (omega arith) bytes-nil)))
+    (bytes-cons b (0 ∷ []) (numberFlagByte-lt _ (dmr-writable d i)) (bytes-cons 0 [] (omega arith) bytes-nil)))
 
 -- a written record's bytes are bytes
-pub record-all-bytes : (name : List ℕ) (info : ContactInfo) → contactGiven 39 name info ≡ Good → AllBytes (contactBytes name info)
+pub record-all-bytes : (name : List ℕ) (info : ContactInfo) → contactWriteRule 39 name info ≡ Valid → AllBytes (contactBytes name info)
 unfolding contactBytes padded
 record-all-bytes name info h =
-    let g = given-good 39 name info h in
+    let g = given-valid 39 name info h in
     bytes-append (padded name) (infoBytes info)
     (bytes-append name (zeros (32 - length name)) (plainText-bytes name (givenOk-plain name (g .1))) (bytes-zeros (32 - length name)))
     (info-all-bytes info (g .2))
 
--- a writer accepts exactly the values that some good record holds
+-- a writer accepts exactly the values that some valid record holds
 pub accepted-exactly : (name : List ℕ) (info : ContactInfo) → IdFits info
-    → (contactGiven 39 name info ≡ Good)
-    ↔ ((s : List ℕ) × AllBytes s × (contactRule s 0 ≡ Good) × (textOf (part s 0 32) ≡ name) × (infoOf s ≡ info))
+    → (contactWriteRule 39 name info ≡ Valid)
+    ↔ ((s : List ℕ) × AllBytes s × (contactRule s 0 ≡ Valid) × (textOf (part s 0 32) ≡ name) × (infoOf s ≡ info))
 unfolding contactBytes contactOf
 accepted-exactly name info fits = (
   λ h.
-      let g = given-good 39 name info h in (
+      let g = given-valid 39 name info h in (
         contactBytes name info,
         record-all-bytes name info h,
-        record-good name info 0 h,
+        record-valid name info 0 h,
         ap textOf (name-back name (g .1) (infoBytes info)) ∙ textOf-padded name (g .1),
         info-back name (g .1) info fits (g .2),
       ),

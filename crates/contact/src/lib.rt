@@ -1,7 +1,7 @@
 // Contact records of 39 bytes: their types and the settings byte (document 01, "The file").
 pub mod settings_byte; // settings_byte.rt: the settings byte of a DMR contact
 
-use fields::rule::Verdict;
+use fields::rule::Validity;
 use m17::Address;
 
 pub const DMR: u8 = 1;
@@ -16,7 +16,7 @@ pub const PRIVATE: u8 = 1;
 pub const ALL_CALL: u8 = 2;
 
 pub struct Settings {
-    pub kind: u8,
+    pub contact_type: u8,
     pub rx_tone: bool,
 }
 
@@ -38,6 +38,6 @@ pub struct Contact {
 
 // A reader's answer. Beside a refusal stands a blank contact.
 pub struct ContactRead {
-    pub verdict: Verdict,
+    pub validity: Validity,
     pub contact: Contact,
 }

@@ -1,24 +1,24 @@
 // Settings: contact type in bits 7 and 6 (0 to 2), rx tone in bit 5, the rest zero.
 use crate::Settings;
-use bits::Choice;
+use bits::NumberFlag;
 ghost use mathlib.Core.Path.{_≡_};
-ghost use Rattle.contact.specs.Contact.{settingsOf, settingsChoice};
+ghost use Rattle.contact.specs.Contact.{settingsOf, settingsNumberFlag};
 
 pub fn settings_of(b: u8) -> Settings
     ensures { λ r. ⌜ r ≡ settingsOf b ⌝ }
 {
-    let c = bits::choice_of(b);
+    let c = bits::number_flag_of(b);
     Settings {
-        kind: c.number,
+        contact_type: c.number,
         rx_tone: c.flag,
     }
 }
 
-pub fn choice_of(t: Settings) -> Choice
-    ensures { λ r. ⌜ r ≡ settingsChoice t ⌝ }
+pub fn settings_number_flag(t: Settings) -> NumberFlag
+    ensures { λ r. ⌜ r ≡ settingsNumberFlag t ⌝ }
 {
-    Choice {
-        number: t.kind,
+    NumberFlag {
+        number: t.contact_type,
         flag: t.rx_tone,
     }
 }

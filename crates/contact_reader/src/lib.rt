@@ -5,23 +5,23 @@ use contact::ContactRead;
 use contact::DmrContact;
 use contact::Settings;
 use contact::settings_byte::settings_of;
-use contact_validation::judge::judge;
+use contact_validation::validate;
 use fields::numbers::be48;
 use fields::numbers::byte_at;
 use fields::numbers::le32;
 use fields::put::bytes32;
-use fields::rule::Verdict;
+use fields::rule::Validity;
 ghost use mathlib.Core.Path.{_≡_};
 ghost use Prim.Native.Nat.{_≤_};
 ghost use lib.ListN.{length};
 ghost use Rattle.contact.specs.Contact.{infoOf, contactOf, blankContact, contactAnswer, contactRule};
 
-// What a good record's bytes say but for its name.
+// What a valid record's bytes say but for its name.
 fn info_of(s: &[u8]) -> ContactInfo
     requires { ⌜ 39 ≤ length (now s) ⌝ }
     ensures { λ r. ⌜ r ≡ infoOf (now (s .entry)) ⌝ }
 {
-    if byte_at(s, 32) == contact::DMR {
+    if byte_at(s, format::sizes::CONTACT_MODE_AT) == contact::DMR {
         ContactInfo::Dmr(DmrContact {
             id: le32(s, 33),
             settings: settings_of(byte_at(s, 37)),
@@ -49,25 +49,25 @@ pub fn blank() -> Contact
         info: ContactInfo::Dmr(DmrContact {
             id: 0,
             settings: Settings {
-                kind: 0,
+                contact_type: 0,
                 rx_tone: false,
             },
         }),
     }
 }
 
-// The answer for a verdict on a record's bytes; a good verdict comes only with all 39 of them.
-pub fn answer(verdict: Verdict, s: &[u8]) -> ContactRead
-    requires { ⌜ (verdict ≡ Verdict.Good → 39 ≤ length (now s)) ⌝ }
-    ensures { λ r. ⌜ r ≡ contactAnswer verdict (now (s .entry)) ⌝ }
+// The answer for a validity on a record's bytes; `Valid` comes only with all 39 of them.
+pub fn answer(validity: Validity, s: &[u8]) -> ContactRead
+    requires { ⌜ (validity ≡ Validity.Valid → 39 ≤ length (now s)) ⌝ }
+    ensures { λ r. ⌜ r ≡ contactAnswer validity (now (s .entry)) ⌝ }
 {
-    match verdict {
-        Verdict::Good => ContactRead {
-            verdict: Verdict::Good,
+    match validity {
+        Validity::Valid => ContactRead {
+            validity: Validity::Valid,
             contact: contact_of(s),
         },
-        Verdict::Refused(n, p) => ContactRead {
-            verdict: Verdict::Refused(n, p),
+        Validity::Refused(n, p) => ContactRead {
+            validity: Validity::Refused(n, p),
             contact: blank(),
         },
     }
@@ -77,5 +77,5 @@ pub fn answer(verdict: Verdict, s: &[u8]) -> ContactRead
 pub fn read(s: &[u8]) -> ContactRead
     ensures { λ r. ⌜ r ≡ contactAnswer (contactRule (now (s .entry)) 0) (now (s .entry)) ⌝ }
 {
-    answer(judge(s, 0), s)
+    answer(validate(s, 0), s)
 }

@@ -1,34 +1,34 @@
-// Whether a whole contact is good: what `judge` answers, but for number and place. Nothing branches on the record's bytes.
+// Whether a whole contact is valid: what `validate` answers, but for number and place. Nothing branches on the record's bytes.
 use fields::numbers::be48;
 use fields::rule::pick;
 use text::text_ok;
 ghost use mathlib.Core.Path.{_≡_};
 ghost use Prim.Native.Nat.{ℕ};
 ghost use lib.ListN.{length};
-ghost use Rattle.fields.specs.Rule.{isGood};
+ghost use Rattle.fields.specs.Rule.{isValid};
 ghost use Rattle.contact.specs.Contact.{dmrRule, m17Rule, contactRule};
 
-fn dmr_good(s: &[u8]) -> bool
+fn dmr_valid(s: &[u8]) -> bool
     requires { ⌜ length (now s) ≡ 39 ⌝ }
-    ensures { λ r. ⌜ ((base : ℕ) → r ≡ isGood (dmrRule (now (s .entry)) base)) ⌝ }
+    ensures { λ r. ⌜ ((base : ℕ) → r ≡ isValid (dmrRule (now (s .entry)) base)) ⌝ }
 {
-    bits::choice_ok(s[37]) & (s[38] == 0)
+    bits::number_flag_ok(s[37]) & (s[38] == 0)
 }
 
-fn m17_good(s: &[u8]) -> bool
+fn m17_valid(s: &[u8]) -> bool
     requires { ⌜ length (now s) ≡ 39 ⌝ }
-    ensures { λ r. ⌜ ((base : ℕ) → r ≡ isGood (m17Rule (now (s .entry)) base)) ⌝ }
+    ensures { λ r. ⌜ ((base : ℕ) → r ≡ isValid (m17Rule (now (s .entry)) base)) ⌝ }
 {
     m17::address_ok(be48(s, 33))
 }
 
-// Of a contact's 39 bytes. Both modes are judged, and the contact's own is picked.
-pub fn good(s: &[u8]) -> bool
+// Of a contact's 39 bytes. Both modes are validated, and the contact's own is picked.
+pub fn is_valid(s: &[u8]) -> bool
     requires { ⌜ length (now s) ≡ 39 ⌝ }
-    ensures { λ r. ⌜ ((base : ℕ) → r ≡ isGood (contactRule (now (s .entry)) base)) ⌝ }
+    ensures { λ r. ⌜ ((base : ℕ) → r ≡ isValid (contactRule (now (s .entry)) base)) ⌝ }
 {
     let mode = s[32];
-    let info = pick(mode == contact::DMR, dmr_good(s), m17_good(s));
+    let info = pick(mode == contact::DMR, dmr_valid(s), m17_valid(s));
     let kind = (mode == contact::DMR) | (mode == contact::M17);
     text_ok(&s[0..32]) & (kind & info)
 }

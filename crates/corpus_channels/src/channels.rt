@@ -13,7 +13,7 @@ use channel::FmInfo;
 use channel::Info;
 use channel::Location;
 use channel::M17Info;
-use fields::rule::Verdict;
+use fields::rule::Validity;
 use tones::Frequency;
 use tones::Tone;
 
@@ -142,9 +142,9 @@ fn show(c: Channel) {
 
 pub(crate) fn read(record: &[u8]) {
     let read = channel_reader::read(record);
-    let verdict = read.verdict;
-    match verdict {
-        Verdict::Good => show(read.channel),
-        Verdict::Refused(n, p) => refused(n, p),
+    let validity = read.validity;
+    match validity {
+        Validity::Valid => show(read.channel),
+        Validity::Refused(n, p) => refused(n, p),
     }
 }

@@ -1,9 +1,9 @@
-// Answers the cases of a corpus of channels read on standard input, one line each, as the second program writes them (second/README.md).
+// Answers the cases of a corpus of channels read on standard input, one line each, as the second program writes them (tests/second/README.md).
 mod channels; // channels.rt: channels read
 mod input; // input.rt: a case
 mod print; // print.rt: words, numbers and bytes
 
-use layout::places::lend;
+use layout::places::record_bytes;
 
 // Whether there was a case: a byte that says that it is a channel, one that says "read", and the record.
 fn one_case(buffer: &mut [u8]) -> bool {
@@ -11,7 +11,7 @@ fn one_case(buffer: &mut [u8]) -> bool {
     if n == 0 {
         return false;
     }
-    channels::read(lend(&buffer[..n], 2, 65536));
+    channels::read(record_bytes(&buffer[..n], 2, 65536));
     print::word(b"\n");
     true
 }

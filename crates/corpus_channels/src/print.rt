@@ -1,6 +1,6 @@
 // Words, numbers and bytes, as lines have them.
 use fields::numbers::wide_at;
-use layout::places::lend;
+use layout::places::record_bytes;
 use libc::STDOUT_FILENO;
 use text::text_length;
 ghost use Prim.Native.Nat.{_≤_};
@@ -41,7 +41,7 @@ fn bytes(s: &[u8]) {
 // A text field's bytes without its padding.
 pub(crate) fn text(label: &[u8], field: &[u8]) {
     word(label);
-    bytes(lend(field, 0, text_length(field)));
+    bytes(record_bytes(field, 0, text_length(field)));
 }
 
 // Prints what a sign of a form stands for, and answers how many numbers that took.

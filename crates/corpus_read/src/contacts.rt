@@ -3,7 +3,7 @@ use crate::print;
 use contact::Contact;
 use contact::ContactInfo;
 use contact::DmrContact;
-use fields::rule::Verdict;
+use fields::rule::Validity;
 use m17::Address;
 
 fn m17(a: Address, name: &[u8]) {
@@ -17,7 +17,7 @@ fn m17(a: Address, name: &[u8]) {
 fn dmr(d: DmrContact, name: &[u8]) {
     print::text(b"dmr name=", name);
     print::number(b" id=", d.id as u64);
-    print::number(b" type=", d.settings.kind as u64);
+    print::number(b" type=", d.settings.contact_type as u64);
     print::number(b" rxtone=", d.settings.rx_tone as u64);
 }
 
@@ -32,9 +32,9 @@ fn show(c: Contact) {
 
 pub(crate) fn read(record: &[u8]) {
     let read = contact_reader::read(record);
-    let verdict = read.verdict;
-    match verdict {
-        Verdict::Good => show(read.contact),
-        Verdict::Refused(n, p) => print::refused(n, p),
+    let validity = read.validity;
+    match validity {
+        Validity::Valid => show(read.contact),
+        Validity::Refused(n, p) => print::refused(n, p),
     }
 }

@@ -1,22 +1,22 @@
-// Answers the cases of a corpus of files judged, contacts read and texts to numbers on standard input, one line each, as the second program
-// writes them (second/README.md).
+// Answers the cases of a corpus of files validated, contacts read and texts to numbers on standard input, one line each, as the second program
+// writes them (tests/second/README.md).
 mod contacts; // contacts.rt: contacts read
 mod input; // input.rt: a case
 mod print; // print.rt: words, numbers and bytes
 
 use fields::numbers::byte_at;
-use layout::places::lend;
+use layout::places::record_bytes;
 use m17::Encoded;
-use validation::Judged;
+use validation::Validated;
 
-fn judge(file: &[u8]) {
-    match validation::judge::judge(file) {
-        Judged::Accepted(c) => {
+fn validate(file: &[u8]) {
+    match validation::validate(file) {
+        Validated::Accepted(c) => {
             print::number(b"ok ", c.contacts as u64);
             print::number(b" ", c.channels as u64);
             print::number(b" ", c.banks as u64);
         }
-        Judged::Refused(n, p) => print::refused(n, p),
+        Validated::Refused(n, p) => print::refused(n, p),
     }
 }
 
@@ -31,11 +31,11 @@ fn encode(text: &[u8]) {
 fn answer(case: &[u8]) {
     let sort = byte_at(case, 0);
     if sort == 0 {
-        judge(lend(case, 1, 65536));
+        validate(record_bytes(case, 1, 65536));
     } else if sort == 1 {
-        contacts::read(lend(case, 2, 65536));
+        contacts::read(record_bytes(case, 2, 65536));
     } else {
-        encode(lend(case, 2, 65536));
+        encode(record_bytes(case, 2, 65536));
     }
 }
 

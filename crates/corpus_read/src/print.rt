@@ -1,6 +1,6 @@
 // Words, numbers and bytes, as lines have them.
 use fields::numbers::wide_at;
-use layout::places::lend;
+use layout::places::record_bytes;
 use libc::STDOUT_FILENO;
 use text::text_length;
 
@@ -35,5 +35,5 @@ fn bytes(s: &[u8]) {
 // A text field's bytes without its padding.
 pub(crate) fn text(label: &[u8], field: &[u8]) {
     word(label);
-    bytes(lend(field, 0, text_length(field)));
+    bytes(record_bytes(field, 0, text_length(field)));
 }

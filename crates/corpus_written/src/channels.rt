@@ -1,7 +1,7 @@
 // A channel to write, out of a case.
 use crate::strings::past_string;
 use crate::strings::string;
-use bits::Halves;
+use bits::Nibbles;
 use bits::signed_of;
 use channel::Common;
 use channel::ContactIndex;
@@ -14,7 +14,7 @@ use channel::Traits;
 use fields::numbers::byte_at;
 use fields::numbers::le16;
 use fields::numbers::le32;
-use fields::rule::Verdict;
+use fields::rule::Validity;
 use tones::Tone;
 ghost use Prim.Native.Nat.{_<_, _^_};
 
@@ -75,10 +75,10 @@ fn contact_at(case: &[u8], k: usize) -> ContactIndex
     }
 }
 
-fn halves_at(case: &[u8], k: usize) -> Halves
+fn nibbles_at(case: &[u8], k: usize) -> Nibbles
     requires { ⌜ k < 2 ^ 33 ⌝ }
 {
-    Halves {
+    Nibbles {
         high: byte_at(case, k),
         low: byte_at(case, k + 1),
     }
@@ -97,7 +97,7 @@ fn dmr_at(case: &[u8], k: usize) -> DmrInfo
     requires { ⌜ k < 2 ^ 32 ⌝ }
 {
     DmrInfo {
-        colours: halves_at(case, k),
+        colours: nibbles_at(case, k),
         slot: byte_at(case, k + 2),
         contact: contact_at(case, k + 3),
     }
@@ -107,7 +107,7 @@ fn m17_at(case: &[u8], k: usize) -> M17Info
     requires { ⌜ k < 2 ^ 32 ⌝ }
 {
     M17Info {
-        access: halves_at(case, k),
+        access: nibbles_at(case, k),
         operation: byte_at(case, k + 2),
         encryption: byte_at(case, k + 3),
         position: flag_at(case, k + 4),
@@ -129,7 +129,7 @@ fn info_at(case: &[u8], mode: u8, k: usize) -> Info
 }
 
 // Writes the channel that stands in a case from k on over a buffer.
-pub(crate) fn write(case: &[u8], k: usize, out: &mut [u8]) -> Verdict
+pub(crate) fn write(case: &[u8], k: usize, out: &mut [u8]) -> Validity
     requires { ⌜ k < 300 ⌝ }
 {
     let name = k + 14;

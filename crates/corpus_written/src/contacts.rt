@@ -7,7 +7,7 @@ use contact::Settings;
 use fields::numbers::byte_at;
 use fields::numbers::le32;
 use fields::numbers::le64;
-use fields::rule::Verdict;
+use fields::rule::Validity;
 use m17::Address;
 ghost use Prim.Native.Nat.{_<_, _^_};
 
@@ -15,7 +15,7 @@ fn dmr_at(case: &[u8], k: usize) -> DmrContact
     requires { ⌜ k < 2 ^ 33 ⌝ }
 {
     let settings = Settings {
-        kind: byte_at(case, k + 4),
+        contact_type: byte_at(case, k + 4),
         rx_tone: byte_at(case, k + 5) == 1,
     };
     DmrContact {
@@ -39,7 +39,7 @@ fn info_at(case: &[u8], k: usize) -> ContactInfo
 }
 
 // Writes the contact that stands in a case from k on over a buffer.
-pub(crate) fn write(case: &[u8], k: usize, out: &mut [u8]) -> Verdict
+pub(crate) fn write(case: &[u8], k: usize, out: &mut [u8]) -> Validity
     requires { ⌜ k < 300 ⌝ }
 {
     let info = info_at(case, past_string(case, k));

@@ -1,5 +1,5 @@
 // Answers the cases of a corpus of records written and numbers to texts on standard input, one line each, as the second program writes them
-// (second/README.md).
+// (tests/second/README.md).
 mod channels; // channels.rt: a channel to write
 mod contacts; // contacts.rt: a contact to write
 mod input; // input.rt: a case
@@ -11,8 +11,8 @@ use crate::strings::put_first;
 use crate::strings::string;
 use fields::numbers::byte_at;
 use fields::numbers::le64;
-use fields::rule::Verdict;
-use layout::places::lend;
+use fields::rule::Validity;
+use layout::places::record_bytes;
 use m17::Decoded;
 ghost use Prim.Native.Nat.{_<_};
 
@@ -31,7 +31,7 @@ fn decode(n: u64, out: &mut [u8]) {
 }
 
 // The record that stands in a case from k on, over a buffer.
-fn record(case: &[u8], k: usize, out: &mut [u8]) -> Verdict
+fn record(case: &[u8], k: usize, out: &mut [u8]) -> Validity
     requires { ⌜ k < 300 ⌝ }
 {
     if byte_at(case, 0) == 1 {
@@ -44,36 +44,36 @@ fn record(case: &[u8], k: usize, out: &mut [u8]) -> Verdict
 fn write(case: &[u8], k: usize, out: &mut [u8])
     requires { ⌜ k < 300 ⌝ }
 {
-    print::verdict(record(case, k, out));
+    print::validity(record(case, k, out));
     print::buffer(out);
 }
 
 // A record stands behind the output buffer before the call, a number before the text buffer.
-fn answer(case: &[u8], room: &mut [u8]) {
+fn answer(case: &[u8], scratch: &mut [u8]) {
     if byte_at(case, 0) < 3 {
-        let n = put_first(room, string(case, 2));
-        write(case, past_string(case, 2), &mut room[..n]);
+        let n = put_first(scratch, string(case, 2));
+        write(case, past_string(case, 2), &mut scratch[..n]);
     } else {
-        let n = put_first(room, lend(case, 10, 65536));
-        decode(le64(case, 2), &mut room[..n]);
+        let n = put_first(scratch, record_bytes(case, 10, 65536));
+        decode(le64(case, 2), &mut scratch[..n]);
     }
 }
 
 // Whether there was a case.
-fn one_case(buffer: &mut [u8], room: &mut [u8]) -> bool {
+fn one_case(buffer: &mut [u8], scratch: &mut [u8]) -> bool {
     let n = input::case(buffer);
     if n == 0 {
         return false;
     }
-    answer(&buffer[..n], room);
+    answer(&buffer[..n], scratch);
     true
 }
 
 fn main() {
     let mut buffer = io::buffer();
-    let mut room = io::buffer();
+    let mut scratch = io::buffer();
     let mut turns = 0u32;
-    while turns < 1_000_000 && one_case(&mut buffer, &mut room) {
+    while turns < 1_000_000 && one_case(&mut buffer, &mut scratch) {
         turns += 1;
     }
 }

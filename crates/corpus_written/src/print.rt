@@ -1,6 +1,6 @@
 // Words, numbers and bytes, as lines have them.
 use fields::numbers::wide_at;
-use fields::rule::Verdict;
+use fields::rule::Validity;
 use libc::STDOUT_FILENO;
 
 pub(crate) fn word(s: &[u8]) {
@@ -31,10 +31,10 @@ fn bytes(s: &[u8]) {
     }
 }
 
-pub(crate) fn verdict(v: Verdict) {
+pub(crate) fn validity(v: Validity) {
     match v {
-        Verdict::Good => word(b"wrote"),
-        Verdict::Refused(n, p) => refused(n, p),
+        Validity::Valid => word(b"wrote"),
+        Validity::Refused(n, p) => refused(n, p),
     }
 }
 

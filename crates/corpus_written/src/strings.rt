@@ -1,7 +1,7 @@
 // What stands in a case: strings, each a byte, its length, and then that many bytes; and a room filled with one.
 use fields::numbers::byte_at;
 use fields::put::put;
-use layout::places::lend;
+use layout::places::record_bytes;
 ghost use Prim.Native.Nat.{_+_, _<_, _^_};
 ghost use Rattle.io.specs.Counts.{Counts};
 
@@ -9,7 +9,7 @@ ghost use Rattle.io.specs.Counts.{Counts};
 pub(crate) fn string(case: &[u8], k: usize) -> &[u8]
     requires { ⌜ k < 2 ^ 33 ⌝ }
 {
-    lend(case, k + 1, byte_at(case, k) as usize)
+    record_bytes(case, k + 1, byte_at(case, k) as usize)
 }
 
 // The place past the string at k.
@@ -21,13 +21,13 @@ pub(crate) fn past_string(case: &[u8], k: usize) -> usize
 }
 
 // Puts bytes at the start of a room and answers how many they are; none where they do not fit.
-pub(crate) fn put_first(room: &mut [u8], bytes: &[u8]) -> usize
-    ensures { λ r. ⌜ Counts r (now (room .exit)) ⌝ }
+pub(crate) fn put_first(scratch: &mut [u8], bytes: &[u8]) -> usize
+    ensures { λ r. ⌜ Counts r (now (scratch .exit)) ⌝ }
 {
     let n = bytes.len();
-    if room.len() < n {
+    if scratch.len() < n {
         return 0;
     }
-    put(room, 0, bytes);
+    put(scratch, 0, bytes);
     n
 }

@@ -12,8 +12,8 @@ use Rattle.fields.specs.Bytes.{part, num}
 use Rattle.channel.specs.Rule.{namedContact}
 use Rattle.channel.specs.declared.ContactIndex.{ContactIndex}
 use Rattle.layout.specs.Banks.{entryCount, nextBank}
-use Rattle.plug.specs.Plug.{blocks, indexesAt, banksAt}
-use Rattle.plug.specs.EditRules.{isIndex, someNames, holdsChannel, someHolds}
+use Rattle.model.specs.Codeplug.{blocks, indexesAt, banksAt}
+use Rattle.model.specs.EditRules.{isIndex, someNames, holdsChannel, someHolds}
 
 -- ---- one step of a walk: all is the answer, b the record's, s what is left
 

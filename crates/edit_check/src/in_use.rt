@@ -8,24 +8,24 @@ use layout::places::banks_place;
 use layout::places::channel_count;
 use layout::places::channel_place;
 use layout::places::entry_count;
-use layout::places::lend;
 use layout::places::next_bank;
-use plug::Kind;
-use plug::is_index;
+use layout::places::record_bytes;
+use model::Kind;
+use model::is_index;
 ghost use mathlib.Core.Path.{_≡_};
 ghost use Prim.Native.Nat.{_+_, _<_, _^_};
-ghost use Rattle.plug.specs.Plug.{plugOf, indexesAt};
-ghost use Rattle.plug.specs.EditRules.{someNames, holdsChannel, someHolds, inUse};
+ghost use Rattle.model.specs.Codeplug.{codeplugOf, indexesAt};
+ghost use Rattle.model.specs.EditRules.{someNames, holdsChannel, someHolds, inUse};
 
 // Whether some DMR or M17 channel names contact i.
-pub fn some_names(f: &[u8], i: usize) -> bool
-    ensures { λ r. ⌜ r ≡ someNames i (plugOf (now (f .entry)) .channels) ⌝ }
+pub(crate) fn some_names(f: &[u8], i: usize) -> bool
+    ensures { λ r. ⌜ r ≡ someNames i (codeplugOf (now (f .entry)) .channels) ⌝ }
 {
     let channels = channel_count(f);
     let mut n = 0;
     let mut p = channel_place(f, 0);
     while n < channels {
-        if is_index(named_contact(lend(f, p, CHANNEL_SIZE)), i) {
+        if is_index(named_contact(record_bytes(f, p, CHANNEL_SIZE)), i) {
             return true;
         }
         n += 1;
@@ -52,8 +52,8 @@ fn bank_holds(f: &[u8], n: usize, start: usize, i: usize) -> bool
 }
 
 // Whether some bank holds channel i.
-pub fn some_holds(f: &[u8], i: usize) -> bool
-    ensures { λ r. ⌜ r ≡ someHolds i (plugOf (now (f .entry)) .banks) ⌝ }
+pub(crate) fn some_holds(f: &[u8], i: usize) -> bool
+    ensures { λ r. ⌜ r ≡ someHolds i (codeplugOf (now (f .entry)) .banks) ⌝ }
 {
     let banks = bank_count(f);
     let mut n = 0;
@@ -69,8 +69,8 @@ pub fn some_holds(f: &[u8], i: usize) -> bool
 }
 
 // Whether an edit would remove what is in use.
-pub fn in_use(f: &[u8], k: Kind, i: usize) -> bool
-    ensures { λ r. ⌜ r ≡ inUse k i (plugOf (now (f .entry))) ⌝ }
+pub(crate) fn in_use(f: &[u8], k: Kind, i: usize) -> bool
+    ensures { λ r. ⌜ r ≡ inUse k i (codeplugOf (now (f .entry))) ⌝ }
 {
     match k {
         Kind::RemoveContact => some_names(f, i),

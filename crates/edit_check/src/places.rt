@@ -3,17 +3,17 @@ use format::sizes::COUNT_MAX;
 use layout::places::bank_count;
 use layout::places::channel_count;
 use layout::places::contact_count;
-use plug::Kind;
-use plug::places::entries_in;
+use model::Kind;
+use model::places::entries_in;
 ghost use mathlib.Core.Path.{_≡_};
-ghost use Rattle.plug.specs.Laid.{Laid};
-ghost use Rattle.plug.specs.Plug.{plugOf};
-ghost use Rattle.plug.specs.EditRules.{placeOk, countOk};
+ghost use Rattle.model.specs.HasLayout.{HasLayout};
+ghost use Rattle.model.specs.Codeplug.{codeplugOf};
+ghost use Rattle.model.specs.EditRules.{placeOk, countOk};
 
 // Whether an edit's two places are there.
-pub fn place_ok(f: &[u8], k: Kind, i: usize, j: usize) -> bool
-    requires { ⌜ Laid (now f) ⌝ }
-    ensures { λ r. ⌜ r ≡ placeOk k i j (plugOf (now (f .entry))) ⌝ }
+pub(crate) fn place_ok(f: &[u8], k: Kind, i: usize, j: usize) -> bool
+    requires { ⌜ HasLayout (now f) ⌝ }
+    ensures { λ r. ⌜ r ≡ placeOk k i j (codeplugOf (now (f .entry))) ⌝ }
 {
     let contacts = contact_count(f);
     let channels = channel_count(f);
@@ -32,9 +32,9 @@ pub fn place_ok(f: &[u8], k: Kind, i: usize, j: usize) -> bool
 }
 
 // Whether the count that an edit makes grow may grow.
-pub fn count_ok(f: &[u8], k: Kind, i: usize) -> bool
-    requires { ⌜ Laid (now f) ⌝ }
-    ensures { λ r. ⌜ r ≡ countOk k i (plugOf (now (f .entry))) ⌝ }
+pub(crate) fn count_ok(f: &[u8], k: Kind, i: usize) -> bool
+    requires { ⌜ HasLayout (now f) ⌝ }
+    ensures { λ r. ⌜ r ≡ countOk k i (codeplugOf (now (f .entry))) ⌝ }
 {
     match k {
         Kind::InsertContact => contact_count(f) != COUNT_MAX,

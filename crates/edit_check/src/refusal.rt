@@ -3,60 +3,60 @@ use crate::in_use::in_use;
 use crate::places::count_ok;
 use crate::places::place_ok;
 use edit_result::result_length;
-use edit_result::result_verdict;
-use fields::rule::Verdict;
+use edit_result::result_validity;
+use fields::rule::Validity;
 use fields::rule::unless;
 use format::refusals::FULL;
 use format::refusals::IN_USE;
 use format::refusals::NO_EDIT;
 use format::refusals::NO_PLACE;
 use format::refusals::NO_ROOM;
-use plug::Kind;
-use plug::record_length;
+use model::Kind;
+use model::record_length;
 ghost use mathlib.Core.Path.{_≡_};
 ghost use mathlib.Core.Bool.{not};
 ghost use lib.ListN.{length};
 ghost use lib.Dec.{eqb};
 ghost use Rattle.fields.specs.Rule.{_then_, unless};
-ghost use Rattle.fields.specs.declared.rule.Verdict.the-variants.{Good};
+ghost use Rattle.fields.specs.declared.rule.Validity.the-variants.{Valid};
 ghost use Rattle.file_rule.specs.File.{fileRule};
-ghost use Rattle.plug.specs.Plug.{plugOf};
-ghost use Rattle.plug.specs.Laid.{Laid};
-ghost use Rattle.plug.specs.Kinds.{recordLength};
-ghost use Rattle.plug.specs.EditRules.{placeOk, countOk, inUse};
-ghost use Rattle.edits.specs.Setting.{refusesKnown};
+ghost use Rattle.model.specs.Codeplug.{codeplugOf};
+ghost use Rattle.model.specs.HasLayout.{HasLayout};
+ghost use Rattle.model.specs.Kinds.{recordLength};
+ghost use Rattle.model.specs.EditRules.{placeOk, countOk, inUse};
+ghost use Rattle.edits.specs.Editing.{refusesKnown};
 
 // What refuses an edit before its result is read.
-fn early_refusal(f: &[u8], k: Kind, i: usize, j: usize, r: &[u8]) -> Verdict
-    requires { ⌜ Laid (now f) ⌝ }
+fn early_refusal(f: &[u8], k: Kind, i: usize, j: usize, r: &[u8]) -> Validity
+    requires { ⌜ HasLayout (now f) ⌝ }
     ensures { λ v. ⌜ v ≡ unless (eqb (length (now (r .entry))) (recordLength k)) 32 0
-        then unless (placeOk k i j (plugOf (now (f .entry)))) 33 0
-        then unless (countOk k i (plugOf (now (f .entry)))) 34 0
-        then unless (not (inUse k i (plugOf (now (f .entry))))) 35 0 ⌝ }
+        then unless (placeOk k i j (codeplugOf (now (f .entry)))) 33 0
+        then unless (countOk k i (codeplugOf (now (f .entry)))) 34 0
+        then unless (not (inUse k i (codeplugOf (now (f .entry))))) 35 0 ⌝ }
 {
     if r.len() != record_length(k) {
-        return Verdict::Refused(NO_EDIT, 0);
+        return Validity::Refused(NO_EDIT, 0);
     }
     if !place_ok(f, k, i, j) {
-        return Verdict::Refused(NO_PLACE, 0);
+        return Validity::Refused(NO_PLACE, 0);
     }
     if !count_ok(f, k, i) {
-        return Verdict::Refused(FULL, 0);
+        return Validity::Refused(FULL, 0);
     }
     unless(!in_use(f, k, i), IN_USE, 0)
 }
 
 // 32 (the record's length), 33, 34, 35, what reading the result gives, 36.
-pub fn refusal(f: &[u8], room: usize, k: Kind, i: usize, j: usize, r: &[u8]) -> Verdict
-    requires { ⌜ fileRule (now f) ≡ Good ⌝ }
+pub fn refusal(f: &[u8], room: usize, k: Kind, i: usize, j: usize, r: &[u8]) -> Validity
+    requires { ⌜ fileRule (now f) ≡ Valid ⌝ }
     ensures { λ v. ⌜ v ≡ refusesKnown k i j (now (r .entry)) room (now (f .entry)) ⌝ }
 {
     let early = early_refusal(f, k, i, j, r);
-    if let Verdict::Refused(_, _) = early {
+    if let Validity::Refused(_, _) = early {
         return early;
     }
-    let read = result_verdict(f, k, i, j, r);
-    if let Verdict::Refused(_, _) = read {
+    let read = result_validity(f, k, i, j, r);
+    if let Validity::Refused(_, _) = read {
         return read;
     }
     unless(result_length(f, k, i) <= room, NO_ROOM, 0)

@@ -5,11 +5,11 @@ use mathlib.Core.Bool.{true}
 use mathlib.Core.List.{List}
 use lib.ListN.{length}
 use Rattle.fields.specs.Bytes.{little, littleBytes}
-use Rattle.plug.specs.Plug.{plugOf}
-use Rattle.plug.specs.Laid.{Laid}
-use Rattle.plug.specs.declared.Kind.{Kind}
-use Rattle.plug.specs.Kinds.{recordLength}
-use Rattle.plug.specs.EditRules.{placeOk, countOk}
+use Rattle.model.specs.Codeplug.{codeplugOf}
+use Rattle.model.specs.HasLayout.{HasLayout}
+use Rattle.model.specs.declared.Kind.{Kind}
+use Rattle.model.specs.Kinds.{recordLength}
+use Rattle.model.specs.EditRules.{placeOk, countOk}
 use Rattle.layout.specs.Places.{bankCount, offsetPlace}
 use Rattle.renumber.specs.declared.shift.Growth.{Growth}
 use Rattle.plan.specs.declared.Table.{Table}
@@ -20,7 +20,7 @@ use Rattle.edits.specs.Result.{result}
 
 -- a file laid out as an accepted one, with the edit's places, whose count may grow
 abbrev pub Ready : Kind → ℕ → ℕ → List ℕ → Type 0
-Ready k i j f = Laid f × ((placeOk k i j (plugOf f) ≡ true) × (countOk k i (plugOf f) ≡ true))
+Ready k i j f = HasLayout f × ((placeOk k i j (codeplugOf f) ≡ true) × (countOk k i (codeplugOf f) ≡ true))
 
 -- (a record of bytes is its own number's bytes)
 unfoldable pub Makes : Plan → Kind → ℕ → ℕ → List ℕ → Type 0

@@ -1,8 +1,13 @@
 // The plan of an edit: which bytes it changes, and how.
+use format::sizes::BANK_COUNT_AT;
+use format::sizes::BANK_ENTRY_SIZE;
 use format::sizes::BANK_HEAD_SIZE;
+use format::sizes::CHANNEL_COUNT_AT;
 use format::sizes::CHANNEL_SIZE;
+use format::sizes::CONTACT_COUNT_AT;
 use format::sizes::CONTACT_SIZE;
-use format::sizes::ENTRY_SIZE;
+use format::sizes::ENTRY_COUNT_AT;
+use format::sizes::OFFSET_SIZE;
 use layout::places::bank_count;
 use layout::places::banks_place;
 use layout::places::channel_count;
@@ -11,17 +16,17 @@ use layout::places::contact_count;
 use layout::places::contact_place;
 use layout::places::entry_count;
 use layout::places::offset_place;
+use model::Kind;
+use model::places::bank_place;
 use plan::Block;
 use plan::Counted;
 use plan::Plan;
 use plan::Table;
-use plug::Kind;
-use plug::places::bank_place;
 use renumber::shift::Growth;
 use renumber::shift::Shift;
 ghost use mathlib.Core.Path.{_≡_};
 ghost use Prim.Native.Nat.{_≤_};
-ghost use Rattle.plug.specs.declared.Kind.the-variants as kind;
+ghost use Rattle.model.specs.declared.Kind.the-variants as kind;
 ghost use Rattle.layout.specs.Places.{bankCount};
 ghost use Rattle.edit_plan.specs.Planned.{Ready, Makes, tableFrom};
 
@@ -41,7 +46,7 @@ fn table_from(f: &[u8], i: usize, growth: Growth) -> Table
 
 // ---- contacts
 
-fn contact_in(f: &[u8], i: usize) -> Plan
+fn insert_contact(f: &[u8], i: usize) -> Plan
     requires { ⌜ Ready kind.InsertContact i 0 (now f) ⌝ }
     ensures { λ p. ⌜ Makes p kind.InsertContact i 0 (now (f .entry)) ⌝ }
 {
@@ -50,7 +55,7 @@ fn contact_in(f: &[u8], i: usize) -> Plan
     Plan::Contacts(
         Shift::Raise(i),
         Counted {
-            counter: 82,
+            counter: CONTACT_COUNT_AT,
             count,
             at,
             gone: 0,
@@ -58,7 +63,7 @@ fn contact_in(f: &[u8], i: usize) -> Plan
     )
 }
 
-fn contact_out(f: &[u8], i: usize) -> Plan
+fn remove_contact(f: &[u8], i: usize) -> Plan
     requires { ⌜ Ready kind.RemoveContact i 0 (now f) ⌝ }
     ensures { λ p. ⌜ Makes p kind.RemoveContact i 0 (now (f .entry)) ⌝ }
 {
@@ -67,7 +72,7 @@ fn contact_out(f: &[u8], i: usize) -> Plan
     Plan::Contacts(
         Shift::Lower(i),
         Counted {
-            counter: 82,
+            counter: CONTACT_COUNT_AT,
             count,
             at,
             gone: CONTACT_SIZE,
@@ -77,14 +82,14 @@ fn contact_out(f: &[u8], i: usize) -> Plan
 
 // ---- channels
 
-fn channel_over(f: &[u8], i: usize) -> Plan
+fn replace_channel(f: &[u8], i: usize) -> Plan
     requires { ⌜ Ready kind.ReplaceChannel i 0 (now f) ⌝ }
     ensures { λ p. ⌜ Makes p kind.ReplaceChannel i 0 (now (f .entry)) ⌝ }
 {
     Plan::Replace(channel_place(f, i))
 }
 
-fn channel_in(f: &[u8], i: usize) -> Plan
+fn insert_channel(f: &[u8], i: usize) -> Plan
     requires { ⌜ Ready kind.InsertChannel i 0 (now f) ⌝ }
     ensures { λ p. ⌜ Makes p kind.InsertChannel i 0 (now (f .entry)) ⌝ }
 {
@@ -93,7 +98,7 @@ fn channel_in(f: &[u8], i: usize) -> Plan
     Plan::Channels(
         Shift::Raise(i),
         Counted {
-            counter: 84,
+            counter: CHANNEL_COUNT_AT,
             count,
             at,
             gone: 0,
@@ -101,7 +106,7 @@ fn channel_in(f: &[u8], i: usize) -> Plan
     )
 }
 
-fn channel_out(f: &[u8], i: usize) -> Plan
+fn remove_channel(f: &[u8], i: usize) -> Plan
     requires { ⌜ Ready kind.RemoveChannel i 0 (now f) ⌝ }
     ensures { λ p. ⌜ Makes p kind.RemoveChannel i 0 (now (f .entry)) ⌝ }
 {
@@ -110,7 +115,7 @@ fn channel_out(f: &[u8], i: usize) -> Plan
     Plan::Channels(
         Shift::Lower(i),
         Counted {
-            counter: 84,
+            counter: CHANNEL_COUNT_AT,
             count,
             at,
             gone: CHANNEL_SIZE,
@@ -120,14 +125,14 @@ fn channel_out(f: &[u8], i: usize) -> Plan
 
 // ---- banks and their entries
 
-fn bank_over(f: &[u8], i: usize) -> Plan
+fn rename_bank(f: &[u8], i: usize) -> Plan
     requires { ⌜ Ready kind.RenameBank i 0 (now f) ⌝ }
     ensures { λ p. ⌜ Makes p kind.RenameBank i 0 (now (f .entry)) ⌝ }
 {
     Plan::Replace(bank_place(f, i))
 }
 
-fn bank_in(f: &[u8], i: usize) -> Plan
+fn insert_bank(f: &[u8], i: usize) -> Plan
     requires { ⌜ Ready kind.InsertBank i 0 (now f) ⌝ }
     ensures { λ p. ⌜ Makes p kind.InsertBank i 0 (now (f .entry)) ⌝ }
 {
@@ -140,7 +145,7 @@ fn bank_in(f: &[u8], i: usize) -> Plan
         at,
         offset,
         Counted {
-            counter: 86,
+            counter: BANK_COUNT_AT,
             count,
             at: place,
             gone: 0,
@@ -148,27 +153,27 @@ fn bank_in(f: &[u8], i: usize) -> Plan
     )
 }
 
-fn bank_out(f: &[u8], i: usize) -> Plan
+fn remove_bank(f: &[u8], i: usize) -> Plan
     requires { ⌜ Ready kind.RemoveBank i 0 (now f) ⌝ }
     ensures { λ p. ⌜ Makes p kind.RemoveBank i 0 (now (f .entry)) ⌝ }
 {
     let at = bank_place(f, i);
-    let size = BANK_HEAD_SIZE + entry_count(f, at) * ENTRY_SIZE;
+    let size = BANK_HEAD_SIZE + entry_count(f, at) * BANK_ENTRY_SIZE;
     let count = (bank_count(f) - 1) as u16;
     let place = offset_place(f, i);
     Plan::DropBank(
         table_from(f, i + 1, Growth::Fewer(size as u32)),
         Block { at, size },
         Counted {
-            counter: 86,
+            counter: BANK_COUNT_AT,
             count,
             at: place,
-            gone: 4,
+            gone: OFFSET_SIZE,
         },
     )
 }
 
-fn entry_in(f: &[u8], i: usize, j: usize) -> Plan
+fn insert_entry(f: &[u8], i: usize, j: usize) -> Plan
     requires { ⌜ Ready kind.InsertEntry i j (now f) ⌝ }
     ensures { λ p. ⌜ Makes p kind.InsertEntry i j (now (f .entry)) ⌝ }
 {
@@ -177,15 +182,15 @@ fn entry_in(f: &[u8], i: usize, j: usize) -> Plan
     Plan::Entries(
         table_from(f, i + 1, Growth::More(2)),
         Counted {
-            counter: bank + 32,
+            counter: bank + ENTRY_COUNT_AT,
             count,
-            at: bank + BANK_HEAD_SIZE + j * ENTRY_SIZE,
+            at: bank + BANK_HEAD_SIZE + j * BANK_ENTRY_SIZE,
             gone: 0,
         },
     )
 }
 
-fn entry_out(f: &[u8], i: usize, j: usize) -> Plan
+fn remove_entry(f: &[u8], i: usize, j: usize) -> Plan
     requires { ⌜ Ready kind.RemoveEntry i j (now f) ⌝ }
     ensures { λ p. ⌜ Makes p kind.RemoveEntry i j (now (f .entry)) ⌝ }
 {
@@ -194,9 +199,9 @@ fn entry_out(f: &[u8], i: usize, j: usize) -> Plan
     Plan::Entries(
         table_from(f, i + 1, Growth::Fewer(2)),
         Counted {
-            counter: bank + 32,
+            counter: bank + ENTRY_COUNT_AT,
             count,
-            at: bank + BANK_HEAD_SIZE + j * ENTRY_SIZE,
+            at: bank + BANK_HEAD_SIZE + j * BANK_ENTRY_SIZE,
             gone: 2,
         },
     )
@@ -208,17 +213,17 @@ pub fn plan_of(f: &[u8], k: Kind, i: usize, j: usize) -> Plan
     ensures { λ p. ⌜ Makes p k i j (now (f .entry)) ⌝ }
 {
     match k {
-        Kind::InsertContact => contact_in(f, i),
-        Kind::RemoveContact => contact_out(f, i),
+        Kind::InsertContact => insert_contact(f, i),
+        Kind::RemoveContact => remove_contact(f, i),
         Kind::ReplaceContact => Plan::Replace(contact_place(i)),
-        Kind::InsertChannel => channel_in(f, i),
-        Kind::RemoveChannel => channel_out(f, i),
-        Kind::ReplaceChannel => channel_over(f, i),
-        Kind::InsertBank => bank_in(f, i),
-        Kind::RemoveBank => bank_out(f, i),
-        Kind::RenameBank => bank_over(f, i),
-        Kind::InsertEntry => entry_in(f, i, j),
-        Kind::RemoveEntry => entry_out(f, i, j),
+        Kind::InsertChannel => insert_channel(f, i),
+        Kind::RemoveChannel => remove_channel(f, i),
+        Kind::ReplaceChannel => replace_channel(f, i),
+        Kind::InsertBank => insert_bank(f, i),
+        Kind::RemoveBank => remove_bank(f, i),
+        Kind::RenameBank => rename_bank(f, i),
+        Kind::InsertEntry => insert_entry(f, i, j),
+        Kind::RemoveEntry => remove_entry(f, i, j),
         Kind::SetHeader => Plan::Replace(10),
     }
 }

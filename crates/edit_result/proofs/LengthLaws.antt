@@ -8,36 +8,36 @@ use lib.ListN.{length, getD, length-map}
 use lib.Dec.{leb, ltb}
 use borrow.Author.Tests.{leb-true, ltb-true}
 use Rattle.fields.specs.Bytes.{little}
-use Rattle.fields.specs.declared.rule.Verdict.the-variants.{Good}
+use Rattle.fields.specs.declared.rule.Validity.the-variants.{Valid}
 use Rattle.fields.proofs.Laws.{AllBytes}
 use Rattle.bits.proofs.Laws.{and-right}
 use Rattle.layout.specs.Places.{channelCount, bankCount}
 use Rattle.layout.specs.Banks.{entryCount, bankPlace}
 use Rattle.file_rule.specs.File.{fileRule}
-use Rattle.plug.specs.Plug.{Bank, Plug, bankBytes, plugBytes, plugOf}
-use Rattle.plug.specs.declared.Kind.{Kind}
-use Rattle.plug.specs.declared.Kind.the-variants.{InsertContact, RemoveContact, ReplaceContact, InsertChannel, RemoveChannel, ReplaceChannel, InsertBank, RemoveBank, RenameBank, InsertEntry, RemoveEntry, SetHeader}
-use Rattle.plug.specs.Kinds.{recordLength}
-use Rattle.plug.specs.Edits.{insertAt, removeAt, replaceAt, changeAt, raised, lowered, moveContact, moveEntries, withContacts, withChannels, withBanks, withPreamble, moveContacts, moveChannels, renamed, withEntries, edited}
-use Rattle.plug.specs.EditRules.{placeOk, countOk, inUse, entriesIn}
-use Rattle.plug.proofs.Blocks.{every-getD, banksBytes, length-bankBytes}
-use Rattle.plug.specs.Laid.{Laid}
-use Rattle.plug.proofs.FileOf.{file-of-plug, channels-start, offsets-start, banks-start}
-use Rattle.plug.proofs.Shape.{BankShaped, Shaped, length-plug, plug-of-file, bank-count}
+use Rattle.model.specs.Codeplug.{Bank, Codeplug, bankBytes, codeplugBytes, codeplugOf}
+use Rattle.model.specs.declared.Kind.{Kind}
+use Rattle.model.specs.declared.Kind.the-variants.{InsertContact, RemoveContact, ReplaceContact, InsertChannel, RemoveChannel, ReplaceChannel, InsertBank, RemoveBank, RenameBank, InsertEntry, RemoveEntry, SetHeader}
+use Rattle.model.specs.Kinds.{recordLength}
+use Rattle.model.specs.Edits.{insertAt, removeAt, replaceAt, changeAt, raised, lowered, moveContact, moveEntries, withContacts, withChannels, withBanks, withPreamble, moveContacts, moveChannels, renamed, withEntries, edited}
+use Rattle.model.specs.EditRules.{placeOk, countOk, inUse, entriesIn}
+use Rattle.model.proofs.Blocks.{every-getD, banksBytes, length-bankBytes}
+use Rattle.model.specs.HasLayout.{HasLayout}
+use Rattle.model.proofs.FileOf.{file-of-codeplug, channels-start, offsets-start, banks-start}
+use Rattle.model.proofs.Shape.{BankShaped, Shaped, length-codeplug, codeplug-of-file, bank-count}
 use Rattle.edits.specs.Result.{result}
-use Rattle.edits.specs.Foretold.{resultLength}
-use Rattle.edits.proofs.Accepted.{Accepted, laid, plug-accepted}
+use Rattle.edits.specs.ResultValidity.{resultLength}
+use Rattle.edits.proofs.AcceptedCodeplug.{AcceptedCodeplug, has-layout, codeplug-accepted}
 use Rattle.edits.proofs.ListEdits.{length-insert, length-remove, length-replace, change-is}
 use Rattle.edits.proofs.BankEdits.{noBank, bytes-insert, bytes-remove, bytes-replace}
 use Rattle.edits.proofs.BankKinds.{entries-in}
 use Rattle.edits.proofs.ChannelEdits.{moved-length}
 use Rattle.edits.proofs.EditShape.{up-to, below, edited-shaped}
 use Rattle.layout.proofs.Laws.{bank-inside}
-use Rattle.plug.proofs.PlaceLaws.{entries-at, bank-behind}
+use Rattle.model.proofs.PlaceLaws.{entries-at, bank-behind}
 
 -- ---- an edit of an accepted codeplug, whose result is shaped
 
-module _ (c : Plug) (a : Accepted c) where
+module _ (c : Codeplug) (a : AcceptedCodeplug c) where
   old-bank : (i : ℕ) → i < length (c .banks) → BankShaped (getD (c .banks) i noBank)
   old-bank i g = every-getD BankShaped (c .banks) i noBank (a .shaped .banks) g
 
@@ -45,46 +45,46 @@ module _ (c : Plug) (a : Accepted c) where
   old-length i g = length-bankBytes (getD (c .banks) i noBank) (old-bank i g .wide) ∙ rw (entries-in i (c .banks))
 
   -- the entries of bank i of the file
-  entries-of : (i : ℕ) → i < length (c .banks) → entryCount (plugBytes c) (bankPlace (plugBytes c) i) ≡ entriesIn i (c .banks)
+  entries-of : (i : ℕ) → i < length (c .banks) → entryCount (codeplugBytes c) (bankPlace (codeplugBytes c) i) ≡ entriesIn i (c .banks)
   entries-of i g =
       let h = a .shaped in
-      sym (entries-at (plugBytes c) i (omega (arith, bank-count c h))) ∙ ap (λ (x : Plug). entriesIn i (x .banks)) (plug-of-file c h)
+      sym (entries-at (codeplugBytes c) i (omega (arith, bank-count c h))) ∙ ap (λ (x : Codeplug). entriesIn i (x .banks)) (codeplug-of-file c h)
 
   contacts-changed : (l m : List (List ℕ)) → length m ≡ length (c .channels) → Shaped (withContacts l (withChannels m c))
-      → length (plugBytes (withContacts l (withChannels m c))) + length (c .contacts) * 39 ≡ length (plugBytes c) + length l * 39
+      → length (codeplugBytes (withContacts l (withChannels m c))) + length (c .contacts) * 39 ≡ length (codeplugBytes c) + length l * 39
   unfolding withContacts withChannels
-  contacts-changed l m e h = omega (arith, length-plug (withContacts l (withChannels m c)) h, length-plug c (a .shaped))
+  contacts-changed l m e h = omega (arith, length-codeplug (withContacts l (withChannels m c)) h, length-codeplug c (a .shaped))
 
   contacts-only : (l : List (List ℕ)) → Shaped (withContacts l c)
-      → length (plugBytes (withContacts l c)) + length (c .contacts) * 39 ≡ length (plugBytes c) + length l * 39
+      → length (codeplugBytes (withContacts l c)) + length (c .contacts) * 39 ≡ length (codeplugBytes c) + length l * 39
   unfolding withContacts
-  contacts-only l h = omega (arith, length-plug (withContacts l c) h, length-plug c (a .shaped))
+  contacts-only l h = omega (arith, length-codeplug (withContacts l c) h, length-codeplug c (a .shaped))
 
   channels-changed : (l : List (List ℕ)) (m : List Bank) → length m ≡ length (c .banks)
       → length (banksBytes m) ≡ length (banksBytes (c .banks)) → Shaped (withChannels l (withBanks m c))
-      → length (plugBytes (withChannels l (withBanks m c))) + length (c .channels) * 90 ≡ length (plugBytes c) + length l * 90
+      → length (codeplugBytes (withChannels l (withBanks m c))) + length (c .channels) * 90 ≡ length (codeplugBytes c) + length l * 90
   unfolding withChannels withBanks
-  channels-changed l m e d h = omega (arith, length-plug (withChannels l (withBanks m c)) h, length-plug c (a .shaped))
+  channels-changed l m e d h = omega (arith, length-codeplug (withChannels l (withBanks m c)) h, length-codeplug c (a .shaped))
 
   channels-only : (l : List (List ℕ)) → Shaped (withChannels l c)
-      → length (plugBytes (withChannels l c)) + length (c .channels) * 90 ≡ length (plugBytes c) + length l * 90
+      → length (codeplugBytes (withChannels l c)) + length (c .channels) * 90 ≡ length (codeplugBytes c) + length l * 90
   unfolding withChannels
-  channels-only l h = omega (arith, length-plug (withChannels l c) h, length-plug c (a .shaped))
+  channels-only l h = omega (arith, length-codeplug (withChannels l c) h, length-codeplug c (a .shaped))
 
   banks-changed : (l : List Bank) → Shaped (withBanks l c)
-      → length (plugBytes (withBanks l c)) + (length (c .banks) * 4 + length (banksBytes (c .banks)))
-      ≡ length (plugBytes c) + (length l * 4 + length (banksBytes l))
+      → length (codeplugBytes (withBanks l c)) + (length (c .banks) * 4 + length (banksBytes (c .banks)))
+      ≡ length (codeplugBytes c) + (length l * 4 + length (banksBytes l))
   unfolding withBanks
-  banks-changed l h = omega (arith, length-plug (withBanks l c) h, length-plug c (a .shaped))
+  banks-changed l h = omega (arith, length-codeplug (withBanks l c) h, length-codeplug c (a .shaped))
 
-  title-changed : (s : List ℕ) → Shaped (withPreamble s c) → length (plugBytes (withPreamble s c)) ≡ length (plugBytes c)
+  header-changed : (s : List ℕ) → Shaped (withPreamble s c) → length (codeplugBytes (withPreamble s c)) ≡ length (codeplugBytes c)
   unfolding withPreamble
-  title-changed s h = length-plug (withPreamble s c) h ∙ sym (length-plug c (a .shaped))
+  header-changed s h = length-codeplug (withPreamble s c) h ∙ sym (length-codeplug c (a .shaped))
 
   -- bank i made by g, which is so many bytes longer or shorter
   bank-changed : (i : ℕ) (g : Bank → Bank) → i < length (c .banks) → Shaped (withBanks (changeAt i g (c .banks)) c)
-      → length (plugBytes (withBanks (changeAt i g (c .banks)) c)) + length (bankBytes (getD (c .banks) i noBank))
-      ≡ length (plugBytes c) + length (bankBytes (g (getD (c .banks) i noBank)))
+      → length (codeplugBytes (withBanks (changeAt i g (c .banks)) c)) + length (bankBytes (getD (c .banks) i noBank))
+      ≡ length (codeplugBytes c) + length (bankBytes (g (getD (c .banks) i noBank)))
   bank-changed i g l h =
       let e = change-is i g (c .banks) noBank l in
       let b = g (getD (c .banks) i noBank) in
@@ -92,13 +92,13 @@ module _ (c : Plug) (a : Accepted c) where
       rw e
       (omega (arith, banks-changed (replaceAt i b (c .banks)) s, length-replace i b (c .banks) l, bytes-replace i b (c .banks) l))
 
-renamed-length : (c : Plug) (a : Accepted c) (i : ℕ) (r : List ℕ) → i < length (c .banks) → length r ≡ 32
+renamed-length : (c : Codeplug) (a : AcceptedCodeplug c) (i : ℕ) (r : List ℕ) → i < length (c .banks) → length r ≡ 32
     → length (bankBytes (renamed r (getD (c .banks) i noBank))) ≡ length (bankBytes (getD (c .banks) i noBank))
 unfolding renamed
 renamed-length c a i r g w =
     length-bankBytes (renamed r (getD (c .banks) i noBank)) w ∙ sym (length-bankBytes (getD (c .banks) i noBank) (old-bank c a i g .wide))
 
-fuller-length : (c : Plug) (a : Accepted c) (i j x : ℕ) → i < length (c .banks) → j ≤ entriesIn i (c .banks)
+fuller-length : (c : Codeplug) (a : AcceptedCodeplug c) (i j x : ℕ) → i < length (c .banks) → j ≤ entriesIn i (c .banks)
     → length (bankBytes (withEntries (insertAt j x) (getD (c .banks) i noBank))) ≡ length (bankBytes (getD (c .banks) i noBank)) + 2
 unfolding withEntries
 fuller-length c a i j x g k =
@@ -111,7 +111,7 @@ fuller-length c a i j x g k =
       length-insert j x (b .entries) (omega (arith, entries-in i (c .banks))),
     )
 
-emptier-length : (c : Plug) (a : Accepted c) (i j : ℕ) → i < length (c .banks) → j < entriesIn i (c .banks)
+emptier-length : (c : Codeplug) (a : AcceptedCodeplug c) (i j : ℕ) → i < length (c .banks) → j < entriesIn i (c .banks)
     → length (bankBytes (withEntries (removeAt j) (getD (c .banks) i noBank))) + 2 ≡ length (bankBytes (getD (c .banks) i noBank))
 unfolding withEntries
 emptier-length c a i j g k =
@@ -124,8 +124,8 @@ emptier-length c a i j g k =
       length-remove j (b .entries) (omega (arith, entries-in i (c .banks))),
     )
 
-pub edit-length : (k : Kind) (i j : ℕ) (r : List ℕ) (c : Plug) → Accepted c → Shaped (edited k i j r c) → length r ≡ recordLength k
-    → placeOk k i j c ≡ true → length (plugBytes (edited k i j r c)) ≡ resultLength k i (plugBytes c)
+pub edit-length : (k : Kind) (i j : ℕ) (r : List ℕ) (c : Codeplug) → AcceptedCodeplug c → Shaped (edited k i j r c) → length r ≡ recordLength k
+    → placeOk k i j c ≡ true → length (codeplugBytes (edited k i j r c)) ≡ resultLength k i (codeplugBytes c)
 unfolding edited moveContacts moveChannels
 edit-length InsertContact i j r c a h w p =
     let l = c .contacts in
@@ -199,24 +199,24 @@ edit-length RemoveEntry i j r c a h w p =
     let g = below i (length (c .banks)) (ltb j n) p in
     let k : j < n = ltb-true j n (and-right (ltb i (length (c .banks))) _ p) in
     omega (arith, bank-changed c a i (withEntries (removeAt j)) g h, emptier-length c a i j g k)
-edit-length SetHeader i j r c a h w p = title-changed c a _ h
+edit-length SetHeader i j r c a h w p = header-changed c a _ h
 
 -- ---- an edit of an accepted file
 
-pub result-long : (k : Kind) (i j : ℕ) (r f : List ℕ) → AllBytes f → AllBytes r → fileRule f ≡ Good → length r ≡ recordLength k
-    → placeOk k i j (plugOf f) ≡ true → countOk k i (plugOf f) ≡ true → inUse k i (plugOf f) ≡ false
+pub result-long : (k : Kind) (i j : ℕ) (r f : List ℕ) → AllBytes f → AllBytes r → fileRule f ≡ Valid → length r ≡ recordLength k
+    → placeOk k i j (codeplugOf f) ≡ true → countOk k i (codeplugOf f) ≡ true → inUse k i (codeplugOf f) ≡ false
     → length (result k i j r f) ≡ resultLength k i f
 unfolding result
-result-long k i j r f bytes record-bytes good wide place count free =
-    let a = plug-accepted f good bytes in
-    edit-length k i j r (plugOf f) a (edited-shaped k i j r (plugOf f) a record-bytes wide place count free) wide place
-    ∙ ap (λ (x : List ℕ). resultLength k i x) (file-of-plug f (laid f good bytes))
+result-long k i j r f bytes record-bytes valid wide place count free =
+    let a = codeplug-accepted f valid bytes in
+    edit-length k i j r (codeplugOf f) a (edited-shaped k i j r (codeplugOf f) a record-bytes wide place count free) wide place
+    ∙ ap (λ (x : List ℕ). resultLength k i x) (file-of-codeplug f (has-layout f valid bytes))
 
 -- ---- what is taken away is there
 
-pub bank-fits : (f : List ℕ) (i : ℕ) → Laid f → i < bankCount f → 38 + entryCount f (bankPlace f i) * 2 ≤ length f
+pub bank-fits : (f : List ℕ) (i : ℕ) → HasLayout f → i < bankCount f → 38 + entryCount f (bankPlace f i) * 2 ≤ length f
 bank-fits f i l b =
     omega (arith, bank-inside f i (l .banks) b, bank-behind f i, banks-start f, offsets-start f, channels-start f)
 
-pub channel-fits : (f : List ℕ) (i : ℕ) → Laid f → i < channelCount f → 90 ≤ length f
+pub channel-fits : (f : List ℕ) (i : ℕ) → HasLayout f → i < channelCount f → 90 ≤ length f
 channel-fits f i l g = omega (arith, l .table, banks-start f, offsets-start f, channels-start f)

@@ -1,3 +1,3 @@
--- Laws of an edit's result: its verdict and its length.
+-- Laws of an edit's result: its validity and its length.
 pub mod LengthLaws
-pub mod VerdictLaws
+pub mod ValidityLaws

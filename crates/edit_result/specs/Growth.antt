@@ -6,9 +6,9 @@ use mathlib.Core.List.{List}
 use lib.ListN.{length}
 use lib.Dec.{leb, eqb}
 use Rattle.fields.specs.Rule.{unless}
-use Rattle.fields.specs.declared.rule.Verdict.{Verdict}
-use Rattle.plug.specs.declared.Kind.{Kind}
-use Rattle.plug.specs.declared.Kind.the-variants.{InsertContact, RemoveContact, ReplaceContact, InsertChannel, RemoveChannel, ReplaceChannel, InsertBank, RemoveBank, RenameBank, InsertEntry, RemoveEntry, SetHeader}
+use Rattle.fields.specs.declared.rule.Validity.{Validity}
+use Rattle.model.specs.declared.Kind.{Kind}
+use Rattle.model.specs.declared.Kind.the-variants.{InsertContact, RemoveContact, ReplaceContact, InsertChannel, RemoveChannel, ReplaceChannel, InsertBank, RemoveBank, RenameBank, InsertEntry, RemoveEntry, SetHeader}
 
 abbrev pub growth : Kind → ℕ
 growth InsertContact = 39
@@ -24,5 +24,5 @@ growth InsertEntry = 2
 growth RemoveEntry = 0
 growth SetHeader = 0
 
-abbrev pub growthRule : Kind → List ℕ → Verdict
+abbrev pub growthRule : Kind → List ℕ → Validity
 growthRule k f = unless (eqb (growth k) 0 || leb (length f + growth k) 1_048_576) 1 0

@@ -1,2 +1,2 @@
--- What an edit puts in, for the judge of its result.
+-- What an edit puts in, for validation of its result.
 pub mod Growth

@@ -3,7 +3,7 @@ use channel::values::contact_index_place;
 use channel::values::named_contact;
 use fields::numbers::byte_at;
 use fields::numbers::le16;
-use fields::rule::Verdict;
+use fields::rule::Validity;
 use fields::rule::first;
 use fields::rule::unless;
 use file_channels::index_ok;
@@ -11,21 +11,22 @@ use format::refusals::BANK_ENTRY;
 use format::refusals::CONTACT_INDEX;
 use format::refusals::TEXT;
 use format::refusals::TOO_LONG;
+use format::sizes::BANK_ENTRY_SIZE;
 use format::sizes::BANK_HEAD_SIZE;
 use format::sizes::CHANNEL_SIZE;
+use format::sizes::CONTACT_MODE_AT;
 use format::sizes::CONTACT_SIZE;
 use format::sizes::EMPTY_BANK_SIZE;
-use format::sizes::ENTRY_SIZE;
 use format::sizes::FILE_MAX;
 use format::sizes::OFFSET_SIZE;
 use layout::places::channel_count;
 use layout::places::channel_place;
 use layout::places::contact_place;
 use layout::places::entry_count;
-use layout::places::lend;
-use plug::Kind;
-use plug::is_index;
-use plug::places::bank_place;
+use layout::places::record_bytes;
+use model::Kind;
+use model::is_index;
+use model::places::bank_place;
 use text::text_ok;
 ghost use mathlib.Core.Path.{_≡_};
 ghost use mathlib.Core.Bool.{true};
@@ -35,17 +36,17 @@ ghost use lib.Dec.{ltb};
 ghost use Rattle.fields.specs.Bytes.{part, little};
 ghost use Rattle.text.specs.Text.{textOk};
 ghost use Rattle.fields.specs.Rule.{_then_, unless, each};
-ghost use Rattle.fields.specs.declared.rule.Verdict.the-variants.{Good};
+ghost use Rattle.fields.specs.declared.rule.Validity.the-variants.{Valid};
 ghost use Rattle.layout.specs.Places.{channelCount, bankCount, contactPlace, channelPlace};
 ghost use Rattle.layout.specs.Banks.{bankPlace};
 ghost use Rattle.contact.specs.Contact.{contactRule};
 ghost use Rattle.channel.specs.Rule.{channelRule};
 ghost use Rattle.file_rule.specs.File.{indexOk};
-ghost use Rattle.plug.specs.Laid.{Laid};
-ghost use Rattle.plug.specs.Plug.{plugOf};
-ghost use Rattle.plug.specs.Kinds.{recordLength};
-ghost use Rattle.plug.specs.EditRules.{placeOk};
-ghost use Rattle.edits.specs.Foretold.{keepsMode, resultRule, resultLength};
+ghost use Rattle.model.specs.HasLayout.{HasLayout};
+ghost use Rattle.model.specs.Codeplug.{codeplugOf};
+ghost use Rattle.model.specs.Kinds.{recordLength};
+ghost use Rattle.model.specs.EditRules.{placeOk};
+ghost use Rattle.edits.specs.ResultValidity.{keepsMode, resultRule, resultLength};
 ghost use Rattle.edit_result.specs.Growth.{growth, growthRule};
 
 // How many bytes an edit puts in.
@@ -56,13 +57,13 @@ fn growth(k: Kind) -> usize
         Kind::InsertContact => CONTACT_SIZE,
         Kind::InsertChannel => CHANNEL_SIZE,
         Kind::InsertBank => EMPTY_BANK_SIZE,
-        Kind::InsertEntry => ENTRY_SIZE,
+        Kind::InsertEntry => BANK_ENTRY_SIZE,
         _ => 0,
     }
 }
 
 // The file may grow by what an edit puts in.
-fn may_grow(f: &[u8], k: Kind) -> Verdict
+fn may_grow(f: &[u8], k: Kind) -> Validity
     ensures { λ v. ⌜ v ≡ growthRule k (now (f .entry)) ⌝ }
 {
     let n = growth(k);
@@ -70,20 +71,20 @@ fn may_grow(f: &[u8], k: Kind) -> Verdict
 }
 
 // A channel at p that names contact i is of this mode.
-fn keeps_mode(f: &[u8], i: usize, mode: u8, p: usize) -> Verdict
+fn keeps_mode(f: &[u8], i: usize, mode: u8, p: usize) -> Validity
     requires { ⌜ p < 2 ^ 60 ⌝ }
     ensures { λ v. ⌜ v ≡ keepsMode (now (f .entry)) i mode p ⌝ }
 {
-    let s = lend(f, p, CHANNEL_SIZE);
+    let s = record_bytes(f, p, CHANNEL_SIZE);
     let m = byte_at(s, 0);
     if is_index(named_contact(s), i) {
         return unless(m == mode, CONTACT_INDEX, p + contact_index_place(m));
     }
-    Verdict::Good
+    Validity::Valid
 }
 
 // Every channel that names contact i is of this mode.
-fn all_keep_mode(f: &[u8], i: usize, mode: u8) -> Verdict
+fn all_keep_mode(f: &[u8], i: usize, mode: u8) -> Validity
     ensures { λ v. ⌜ v ≡ each (keepsMode (now (f .entry)) i mode) (channelCount (now (f .entry))) 90 (channelPlace (now (f .entry)) 0) ⌝ }
 {
     let channels = channel_count(f);
@@ -91,70 +92,70 @@ fn all_keep_mode(f: &[u8], i: usize, mode: u8) -> Verdict
     let mut p = channel_place(f, 0);
     while n < channels {
         let v = keeps_mode(f, i, mode, p);
-        if let Verdict::Refused(_, _) = v {
+        if let Validity::Refused(_, _) = v {
             return v;
         }
         n += 1;
         p += CHANNEL_SIZE;
     }
-    Verdict::Good
+    Validity::Valid
 }
 
-fn replace_contact(f: &[u8], i: usize, r: &[u8]) -> Verdict
+fn replace_contact(f: &[u8], i: usize, r: &[u8]) -> Validity
     requires { ⌜ i < 65536 ⌝ }
     ensures { λ v. ⌜ v ≡ contactRule (now (r .entry)) (contactPlace i)
         then each (keepsMode (now (f .entry)) i (getD (now (r .entry)) 32 0)) (channelCount (now (f .entry))) 90 (channelPlace (now (f .entry)) 0) ⌝ }
 {
-    let v = contact_validation::judge::judge(r, contact_place(i));
-    if let Verdict::Refused(_, _) = v {
+    let v = contact_validation::validate(r, contact_place(i));
+    if let Validity::Refused(_, _) = v {
         return v;
     }
-    all_keep_mode(f, i, byte_at(r, 32))
+    all_keep_mode(f, i, byte_at(r, CONTACT_MODE_AT))
 }
 
 // The record as channel i of the file.
-fn put_channel(f: &[u8], i: usize, r: &[u8]) -> Verdict
+fn put_channel(f: &[u8], i: usize, r: &[u8]) -> Validity
     requires { ⌜ i < 65536 ⌝ }
     ensures { λ v. ⌜ v ≡ channelRule (now (r .entry)) (channelPlace (now (f .entry)) i) (indexOk (now (f .entry)) (now (r .entry))) ⌝ }
 {
     let named = index_ok(f, r);
-    channel_validation::judge::judge(r, channel_place(f, i), named)
+    channel_validation::validate(r, channel_place(f, i), named)
 }
 
 // The name of bank i, which then stands d bytes behind where the bank is now.
-fn name_bank(f: &[u8], i: usize, d: usize, r: &[u8]) -> Verdict
-    requires { ⌜ (Laid (now f)) × ((i ≤ bankCount (now f)) × ((length (now r) ≡ 32) × (d ≤ 4))) ⌝ }
+fn name_bank(f: &[u8], i: usize, d: usize, r: &[u8]) -> Validity
+    requires { ⌜ (HasLayout (now f)) × ((i ≤ bankCount (now f)) × ((length (now r) ≡ 32) × (d ≤ 4))) ⌝ }
     ensures { λ v. ⌜ v ≡ unless (textOk (now (r .entry))) 5 (bankPlace (now (f .entry)) i + d) ⌝ }
 {
     unless(text_ok(r), TEXT, bank_place(f, i) + d)
 }
 
-fn put_entry(f: &[u8], i: usize, j: usize, r: &[u8]) -> Verdict
-    requires { ⌜ (Laid (now f)) × ((i ≤ bankCount (now f)) × ((j < 65536) × (length (now r) ≡ 2))) ⌝ }
+fn put_entry(f: &[u8], i: usize, j: usize, r: &[u8]) -> Validity
+    requires { ⌜ (HasLayout (now f)) × ((i ≤ bankCount (now f)) × ((j < 65536) × (length (now r) ≡ 2))) ⌝ }
     ensures { λ v. ⌜ v ≡ unless (ltb (little (now (r .entry))) (channelCount (now (f .entry)))) 11 (bankPlace (now (f .entry)) i + 34 + j * 2) ⌝ }
 {
     let index = le16(r, 0) as usize;
     let channels = channel_count(f);
-    let p = bank_place(f, i) + BANK_HEAD_SIZE + j * ENTRY_SIZE;
+    let p = bank_place(f, i) + BANK_HEAD_SIZE + j * BANK_ENTRY_SIZE;
     unless(index < channels, BANK_ENTRY, p)
 }
 
-fn set_header(r: &[u8]) -> Verdict
+fn set_header(r: &[u8]) -> Validity
     requires { ⌜ length (now r) ≡ 72 ⌝ }
     ensures { λ v. ⌜ v ≡ unless (textOk (part (now (r .entry)) 0 32)) 5 10 then unless (textOk (part (now (r .entry)) 32 32)) 5 42 ⌝ }
 {
-    let author = unless(text_ok(lend(r, 0, 32)), TEXT, 10);
-    let description = unless(text_ok(lend(r, 32, 32)), TEXT, 42);
+    let author = unless(text_ok(record_bytes(r, 0, 32)), TEXT, 10);
+    let description = unless(text_ok(record_bytes(r, 32, 32)), TEXT, 42);
     first(author, description)
 }
 
-// What the judge says of an edit's record, where the file may grow.
-fn record_verdict(f: &[u8], k: Kind, i: usize, j: usize, r: &[u8]) -> Verdict
-    requires { ⌜ (Laid (now f)) × ((length (now r) ≡ recordLength k) × (placeOk k i j (plugOf (now f)) ≡ true)) ⌝ }
+// What validation says of an edit's record, where the file may grow.
+fn record_validity(f: &[u8], k: Kind, i: usize, j: usize, r: &[u8]) -> Validity
+    requires { ⌜ (HasLayout (now f)) × ((length (now r) ≡ recordLength k) × (placeOk k i j (codeplugOf (now f)) ≡ true)) ⌝ }
     ensures { λ v. ⌜ (growthRule k (now (f .entry)) then v) ≡ resultRule k i j (now (r .entry)) (now (f .entry)) ⌝ }
 {
     match k {
-        Kind::InsertContact => contact_validation::judge::judge(r, contact_place(i)),
+        Kind::InsertContact => contact_validation::validate(r, contact_place(i)),
         Kind::ReplaceContact => replace_contact(f, i, r),
         Kind::InsertChannel => put_channel(f, i, r),
         Kind::ReplaceChannel => put_channel(f, i, r),
@@ -163,29 +164,30 @@ fn record_verdict(f: &[u8], k: Kind, i: usize, j: usize, r: &[u8]) -> Verdict
         Kind::InsertEntry => put_entry(f, i, j, r),
         Kind::SetHeader => set_header(r),
         Kind::RemoveContact | Kind::RemoveChannel | Kind::RemoveBank | Kind::RemoveEntry =>
-            Verdict::Good,
+            Validity::Valid,
     }
 }
 
 // What reading the result of an edit gives, told without building it.
-pub fn result_verdict(f: &[u8], k: Kind, i: usize, j: usize, r: &[u8]) -> Verdict
-    requires { ⌜ (Laid (now f)) × ((length (now r) ≡ recordLength k) × (placeOk k i j (plugOf (now f)) ≡ true)) ⌝ }
+pub fn result_validity(f: &[u8], k: Kind, i: usize, j: usize, r: &[u8]) -> Validity
+    requires { ⌜ (HasLayout (now f)) × ((length (now r) ≡ recordLength k) × (placeOk k i j (codeplugOf (now f)) ≡ true)) ⌝ }
     ensures { λ v. ⌜ v ≡ resultRule k i j (now (r .entry)) (now (f .entry)) ⌝ }
 {
-    first(may_grow(f, k), record_verdict(f, k, i, j, r))
+    first(may_grow(f, k), record_validity(f, k, i, j, r))
 }
 
 // The length of the result, of an edit whose places are there.
 pub fn result_length(f: &[u8], k: Kind, i: usize) -> usize
-    requires { ⌜ (Laid (now f)) × ((j : ℕ) × (placeOk k i j (plugOf (now f)) ≡ true)) ⌝ }
+    requires { ⌜ (HasLayout (now f)) × ((j : ℕ) × (placeOk k i j (codeplugOf (now f)) ≡ true)) ⌝ }
     ensures { λ n. ⌜ n ≡ resultLength k i (now (f .entry)) ⌝ }
 {
     let n = f.len();
     match k {
         Kind::RemoveContact => n - CONTACT_SIZE,
         Kind::RemoveChannel => n - CHANNEL_SIZE,
-        Kind::RemoveBank => n - (EMPTY_BANK_SIZE + entry_count(f, bank_place(f, i)) * ENTRY_SIZE),
-        Kind::RemoveEntry => n - ENTRY_SIZE,
+        Kind::RemoveBank => n
+            - (EMPTY_BANK_SIZE + entry_count(f, bank_place(f, i)) * BANK_ENTRY_SIZE),
+        Kind::RemoveEntry => n - BANK_ENTRY_SIZE,
         _ => n + growth(k),
     }
 }

@@ -11,14 +11,14 @@ use lib.Dec.{leb}
 use borrow.Author.Tests.{le-leb, lt-leb, leb-true, eqb-true}
 use Rattle.fields.specs.Bytes.{part}
 use Rattle.fields.specs.Rule.{_then_, unless}
-use Rattle.fields.specs.declared.rule.Verdict.{Verdict}
-use Rattle.fields.specs.declared.rule.Verdict.the-variants.{Good, Refused}
-use Rattle.fields.proofs.Laws.{AllBytes, bytes-take, then-good, good-then, then-refused, unless-good, part-part, littleBytes-little}
+use Rattle.fields.specs.declared.rule.Validity.{Validity}
+use Rattle.fields.specs.declared.rule.Validity.the-variants.{Valid, Refused}
+use Rattle.fields.proofs.Laws.{AllBytes, bytes-take, then-valid, valid-then, then-refused, unless-valid, part-part, littleBytes-little}
 use Rattle.file_rule.specs.File.{fileRule}
-use Rattle.file_rule.proofs.Laws.{file-good}
+use Rattle.file_rule.proofs.Laws.{file-valid}
 use Rattle.journal.specs.Entry.{Entries, whole, broken, entriesOf, entrySize, historyBytes}
 use Rattle.journal.specs.History.{fittingRun, recorded}
-use Rattle.journal.specs.Scan.{numberOfEntries}
+use Rattle.journal.specs.History.{numberOfEntries}
 use Rattle.journal.specs.Change.{entryOf}
 use Rattle.journal.specs.Machine.{State, holding, fileOf, entryList, historyOf, buffersRule, refused, done, newEntry, editRule, editOutcome, editStep}
 use Rattle.journal.specs.Span.{spanOf, entryFrom, Sound, spanSize, recordedIn}
@@ -31,67 +31,67 @@ use Rattle.journal.proofs.RecordLaws.{span-size, span-entry, sound-entryOf, spa
 use Rattle.plan.specs.declared.Plan.{Plan}
 use Rattle.plan.specs.Plan.{planned}
 use Rattle.plan.specs.Fits.{Fits}
-use Rattle.plug.specs.Plug.{plugOf}
-use Rattle.plug.specs.Laid.{Laid}
-use Rattle.plug.specs.declared.Kind.{Kind}
-use Rattle.plug.specs.declared.KindRead.{KindRead}
-use Rattle.plug.specs.declared.KindRead.the-variants.{Known, NoKind}
-use Rattle.plug.specs.Kinds.{kindOf, recordLength}
-use Rattle.plug.specs.EditRules.{placeOk, countOk}
+use Rattle.model.specs.Codeplug.{codeplugOf}
+use Rattle.model.specs.HasLayout.{HasLayout}
+use Rattle.model.specs.declared.Kind.{Kind}
+use Rattle.model.specs.declared.KindRead.{KindRead}
+use Rattle.model.specs.declared.KindRead.the-variants.{Known, NoKind}
+use Rattle.model.specs.Kinds.{kindOf, recordLength}
+use Rattle.model.specs.EditRules.{placeOk, countOk}
 use Rattle.edits.specs.Result.{result}
-use Rattle.edits.proofs.Accepted.{laid}
+use Rattle.edits.proofs.AcceptedCodeplug.{has-layout}
 use Rattle.edit_plan.specs.Planned.{Makes}
-use Rattle.edits.specs.Setting.{Asked, refusesKnown, refusesKind, refuses, appliedKind, applied, editing}
-use Rattle.preconditions.specs.Calls.{lent, left}
+use Rattle.edits.specs.Editing.{EditRequest, refusesKnown, refusesKind, refuses, appliedKind, applied, editing}
+use Rattle.preconditions.specs.Calls.{stateOf, outcomeOf}
 use Rattle.editor.specs.Edit.{committed, knownRule, knownOutcome, knownStep}
-use Rattle.preconditions.proofs.StandLaws.{stand-inside, stand-entries}
+use Rattle.preconditions.proofs.PreconditionLaws.{preconditions-inside, preconditions-entries}
 
--- ---- buffers that stand
+-- ---- buffers that meet the preconditions
 
-pub stand-file : (m : State) → buffersRule editing m ≡ Good → fileRule (fileOf m) ≡ Good
+pub preconditions-file : (m : State) → buffersRule editing m ≡ Valid → fileRule (fileOf m) ≡ Valid
 unfolding buffersRule
-stand-file m e = then-good _ _ (then-good _ _ e .1) .0
+preconditions-file m e = then-valid _ _ (then-valid _ _ e .1) .0
 
 -- ---- the call's step, by its kind
 
-pub edit-refused : (a : Asked) (m : State) (n p : ℕ) (v : Verdict) → v ≡ buffersRule editing m → v ≡ Refused n p
-    → left (answer.Refused n p) (m .room) (m .history) ≡ editStep editing a m
+pub edit-refused : (a : EditRequest) (m : State) (n p : ℕ) (v : Validity) → v ≡ buffersRule editing m → v ≡ Refused n p
+    → outcomeOf (answer.Refused n p) (m .room) (m .history) ≡ editStep editing a m
 unfolding editStep editRule editOutcome refused
 edit-refused a m n p v e f = rw (sym e ∙ f, then-refused (Refused n p) _ n p refl)
 
-rule-stands : (a : Asked) (m : State) → buffersRule editing m ≡ Good
+rule-holds : (a : EditRequest) (m : State) → buffersRule editing m ≡ Valid
     → editRule editing a m
     ≡ refuses a (length (m .room)) (fileOf m) then unless (leb (entrySize (entryOf (fileOf m) (applied a (fileOf m)))) (length (m .history))) 37 0
 unfolding editRule newEntry
-rule-stands a m e = good-then _ _ e
+rule-holds a m e = valid-then _ _ e
 
-rule-no-kind : (a : Asked) (m : State) → buffersRule editing m ≡ Good → kindOf (a .kind) ≡ NoKind → editRule editing a m ≡ Refused 32 0
+rule-no-kind : (a : EditRequest) (m : State) → buffersRule editing m ≡ Valid → kindOf (a .kind) ≡ NoKind → editRule editing a m ≡ Refused 32 0
 unfolding refuses refusesKind
-rule-no-kind a m e f = rule-stands a m e ∙ rw f (then-refused (Refused 32 0) _ 32 0 refl)
+rule-no-kind a m e f = rule-holds a m e ∙ rw f (then-refused (Refused 32 0) _ 32 0 refl)
 
-pub edit-no-kind : (a : Asked) (m : State) (k : KindRead) → buffersRule editing m ≡ Good → k ≡ kindOf (a .kind) → k ≡ NoKind
-    → left (answer.Refused 32 0) (m .room) (m .history) ≡ editStep editing a m
+pub edit-no-kind : (a : EditRequest) (m : State) (k : KindRead) → buffersRule editing m ≡ Valid → k ≡ kindOf (a .kind) → k ≡ NoKind
+    → outcomeOf (answer.Refused 32 0) (m .room) (m .history) ≡ editStep editing a m
 unfolding editStep editOutcome refused
 edit-no-kind a m k e f g = rw (rule-no-kind a m e (sym f ∙ g))
 
-rule-known : (a : Asked) (m : State) (k : Kind) → buffersRule editing m ≡ Good → kindOf (a .kind) ≡ Known k
+rule-known : (a : EditRequest) (m : State) (k : Kind) → buffersRule editing m ≡ Valid → kindOf (a .kind) ≡ Known k
     → editRule editing a m ≡ knownRule k (a .first) (a .second) (a .bytes) m
 unfolding refuses refusesKind applied appliedKind knownRule
-rule-known a m k e f = rule-stands a m e ∙ rw f
+rule-known a m k e f = rule-holds a m e ∙ rw f
 
-applied-known : (a : Asked) (k : Kind) (f : List ℕ) → kindOf (a .kind) ≡ Known k → applied a f ≡ result k (a .first) (a .second) (a .bytes) f
+applied-known : (a : EditRequest) (k : Kind) (f : List ℕ) → kindOf (a .kind) ≡ Known k → applied a f ≡ result k (a .first) (a .second) (a .bytes) f
 unfolding applied appliedKind
 applied-known a k f e = rw e
 
 -- both ways to tell the outcome agree
-outcome-known : (a : Asked) (m : State) (k : Kind) (v : Verdict) (t : Entries) → kindOf (a .kind) ≡ Known k → historyOf m ≡ t
+outcome-known : (a : EditRequest) (m : State) (k : Kind) (v : Validity) (t : Entries) → kindOf (a .kind) ≡ Known k → historyOf m ≡ t
     → editOutcome editing a m v (entryList t) ≡ knownOutcome v k (a .first) (a .second) (a .bytes) m
 unfolding editOutcome knownOutcome committed newEntry recordedIn recorded fittingRun entryList
 outcome-known a m k (Refused n p) t f e = refl
-outcome-known a m k Good (whole es) f e = rw (applied-known a k (fileOf m) f, e)
-outcome-known a m k Good broken f e = rw (applied-known a k (fileOf m) f, e)
+outcome-known a m k Valid (whole es) f e = rw (applied-known a k (fileOf m) f, e)
+outcome-known a m k Valid broken f e = rw (applied-known a k (fileOf m) f, e)
 
-pub edit-known : (a : Asked) (m : State) (k : Kind) (r : KindRead) → buffersRule editing m ≡ Good → r ≡ kindOf (a .kind) → r ≡ Known k
+pub edit-known : (a : EditRequest) (m : State) (k : Kind) (r : KindRead) → buffersRule editing m ≡ Valid → r ≡ kindOf (a .kind) → r ≡ Known k
     → knownStep k (a .first) (a .second) (a .bytes) m ≡ editStep editing a m
 unfolding editStep knownStep
 edit-known a m k r e f g =
@@ -110,7 +110,7 @@ change-numbers f g =
     let b = tail-right f g in
     (unfold entryOf in omega arith, unfold entryOf in omega arith)
 
--- the change from the content of d to g, in buffers that stand: its numbers, and the bytes of d that its entry keeps
+-- the change from the content of d to g, in buffers that meet the preconditions: its numbers, and the bytes of d that its entry keeps
 pub record Changes (d : List ℕ) (len : ℕ) (h : List ℕ) (used : ℕ) (g : List ℕ) (s : Span) : Type 0 where
   pub held : len ≤ length d
   pub short : len ≤ 1_048_576
@@ -122,31 +122,31 @@ pub record Changes (d : List ℕ) (len : ℕ) (h : List ℕ) (used : ℕ) (g : L
   pub old-long : length (part d (s .place) (s .taken)) ≡ s .taken
   pub entry-is : entryFrom s (part d (s .place) (s .taken)) ≡ entryOf (take len d) g
 
-pub stand-accepted : (d : List ℕ) (len : ℕ) (h : List ℕ) (used : ℕ) → buffersRule editing (lent d len h used) ≡ Good
-    → fileRule (take len d) ≡ Good
+pub preconditions-accepted : (d : List ℕ) (len : ℕ) (h : List ℕ) (used : ℕ) → buffersRule editing (stateOf d len h used) ≡ Valid
+    → fileRule (take len d) ≡ Valid
 unfolding fileOf
-stand-accepted d len h used fine = stand-file (lent d len h used) fine
+preconditions-accepted d len h used fine = preconditions-file (stateOf d len h used) fine
 
-pub stand-laid : (d : List ℕ) (len : ℕ) (h : List ℕ) (used : ℕ) → buffersRule editing (lent d len h used) ≡ Good → AllBytes d → Laid (take len d)
-stand-laid d len h used fine b = laid (take len d) (stand-accepted d len h used fine) (bytes-take len d b)
+pub preconditions-has-layout : (d : List ℕ) (len : ℕ) (h : List ℕ) (used : ℕ) → buffersRule editing (stateOf d len h used) ≡ Valid → AllBytes d → HasLayout (take len d)
+preconditions-has-layout d len h used fine b = has-layout (take len d) (preconditions-accepted d len h used fine) (bytes-take len d b)
 
-pub stand-short : (d : List ℕ) (len : ℕ) (h : List ℕ) (used : ℕ) → buffersRule editing (lent d len h used) ≡ Good → length (take len d) ≤ 1_048_576
-stand-short d len h used fine = file-good (take len d) (stand-accepted d len h used fine) .short
+pub preconditions-short : (d : List ℕ) (len : ℕ) (h : List ℕ) (used : ℕ) → buffersRule editing (stateOf d len h used) ≡ Valid → length (take len d) ≤ 1_048_576
+preconditions-short d len h used fine = file-valid (take len d) (preconditions-accepted d len h used fine) .short
 
-stand-unbroken : (d : List ℕ) (len : ℕ) (h : List ℕ) (used : ℕ) → buffersRule editing (lent d len h used) ≡ Good
+preconditions-unbroken : (d : List ℕ) (len : ℕ) (h : List ℕ) (used : ℕ) → buffersRule editing (stateOf d len h used) ≡ Valid
     → numberOfEntries (entriesOf (take used h)) ≡ read.Broken
     → ⊥
 unfolding historyOf
-stand-unbroken d len h used fine = stand-entries (lent d len h used) fine
+preconditions-unbroken d len h used fine = preconditions-entries (stateOf d len h used) fine
 
 module _ (d : List ℕ) (len : ℕ) (h : List ℕ) (used : ℕ) (g : List ℕ) where
-  changes-at : buffersRule editing (lent d len h used) ≡ Good → length g ≤ 1_048_576 → Changes d len h used g (spanOf (entryOf (take len d) g))
+  changes-at : buffersRule editing (stateOf d len h used) ≡ Valid → length g ≤ 1_048_576 → Changes d len h used g (spanOf (entryOf (take len d) g))
   changes-at fine small =
       let f = take len d in
       let s = spanOf (entryOf f g) in
-      let i = stand-inside d len h used fine in
+      let i = preconditions-inside d len h used fine in
       let l : length f ≡ len = length-take-le len d (i .0) in
-      let short = stand-short d len h used fine in
+      let short = preconditions-short d len h used fine in
       let n = change-numbers f g in
       let o = span-old f g in
       let q : part f (s .place) (s .taken) ≡ part d (s .place) (s .taken) = part-part d 0 len (s .place) (s .taken) (omega arith) ∙ rw zero-add in
@@ -154,7 +154,7 @@ module _ (d : List ℕ) (len : ℕ) (h : List ℕ) (used : ℕ) (g : List ℕ) w
         held = i .0;
         short = omega arith;
         stored = i .1;
-        unbroken = stand-unbroken d len h used fine;
+        unbroken = preconditions-unbroken d len h used fine;
         sound = sound-entryOf f g short small;
         inside = omega arith;
         new-is = omega arith;
@@ -162,7 +162,7 @@ module _ (d : List ℕ) (len : ℕ) (h : List ℕ) (used : ℕ) (g : List ℕ) w
         entry-is = ap (λ (b : List ℕ). entryFrom s b) (sym (o .1 ∙ q)) ∙ span-entry (entryOf f g);
       }
 
-  pub changes : (s : Span) → buffersRule editing (lent d len h used) ≡ Good → length g ≤ 1_048_576 → s ≡ spanOf (entryOf (take len d) g)
+  pub changes : (s : Span) → buffersRule editing (stateOf d len h used) ≡ Valid → length g ≤ 1_048_576 → s ≡ spanOf (entryOf (take len d) g)
       → Changes d len h used g s
   changes s fine small e = rw e (changes-at fine small)
 
@@ -175,7 +175,7 @@ module _ (d : List ℕ) (len : ℕ) (h : List ℕ) (used : ℕ) (g : List ℕ) w
         bytes = length (historyBytes (recordedIn (length h) (entryFrom s b) (entriesOf (take used h))));
         entries = length (recordedIn (length h) (entryFrom s b) (entriesOf (take used h)));
       }
-      → left (answer.Done new (run .bytes) (run .entries)) d₁ h₁ ≡ committed g (lent d len h used)
+      → outcomeOf (answer.Done new (run .bytes) (run .entries)) d₁ h₁ ≡ committed g (stateOf d len h used)
   unfolding committed done fileOf historyOf
   change-made s b d₁ h₁ new run c e n f i r =
       let k : entryFrom s b ≡ entryOf (take len d) g = ap (λ (x : List ℕ). entryFrom s x) e ∙ c .entry-is in
@@ -187,26 +187,26 @@ module _ (d : List ℕ) (len : ℕ) (h : List ℕ) (used : ℕ) (g : List ℕ) w
 -- what an edit has that is not refused
 pub record Passes (k : Kind) (i j : ℕ) (r : List ℕ) (room : ℕ) (f : List ℕ) : Type 0 where
   pub wide : length r ≡ recordLength k
-  pub place : placeOk k i j (plugOf f) ≡ true
-  pub count : countOk k i (plugOf f) ≡ true
-  pub good : fileRule (result k i j r f) ≡ Good
+  pub place : placeOk k i j (codeplugOf f) ≡ true
+  pub count : countOk k i (codeplugOf f) ≡ true
+  pub valid : fileRule (result k i j r f) ≡ Valid
   pub roomy : length (result k i j r f) ≤ room
 
-pub passes : (k : Kind) (i j : ℕ) (r : List ℕ) (room : ℕ) (f : List ℕ) (v : Verdict) → v ≡ refusesKnown k i j r room f → v ≡ Good
+pub passes : (k : Kind) (i j : ℕ) (r : List ℕ) (room : ℕ) (f : List ℕ) (v : Validity) → v ≡ refusesKnown k i j r room f → v ≡ Valid
     → Passes k i j r room f
 unfolding refusesKnown
 passes k i j r room f v e g =
-    let wide = then-good _ _ (sym e ∙ g) in
-    let place = then-good _ _ (wide .1) in
-    let count = then-good _ _ (place .1) in
-    let free = then-good _ _ (count .1) in
-    let judged = then-good _ _ (free .1) in
+    let wide = then-valid _ _ (sym e ∙ g) in
+    let place = then-valid _ _ (wide .1) in
+    let count = then-valid _ _ (place .1) in
+    let free = then-valid _ _ (count .1) in
+    let validated = then-valid _ _ (free .1) in
     record {
-      wide = eqb-true _ _ (unless-good _ _ _ (wide .0));
-      place = unless-good _ _ _ (place .0);
-      count = unless-good _ _ _ (count .0);
-      good = judged .0;
-      roomy = leb-true _ _ (unless-good _ _ _ (judged .1));
+      wide = eqb-true _ _ (unless-valid _ _ _ (wide .0));
+      place = unless-valid _ _ _ (place .0);
+      count = unless-valid _ _ _ (count .0);
+      valid = validated .0;
+      roomy = leb-true _ _ (unless-valid _ _ _ (validated .1));
     }
 
 -- the edit's plan p, in a room of so many bytes
@@ -223,7 +223,7 @@ plans k i j r room f p h b m =
     let a = m r (h .wide) (littleBytes-little r b) in
     let l = ap length (a .0) in
     let w = h .roomy in
-    let n = file-good (result k i j r f) (h .good) .short in
+    let n = file-valid (result k i j r f) (h .valid) .short in
     record {
       is = a .0;
       fits = a .1;
@@ -231,26 +231,26 @@ plans k i j r room f p h b m =
       small = omega arith;
     }
 
-module _ (k : Kind) (i j : ℕ) (r d : List ℕ) (len : ℕ) (h : List ℕ) (used : ℕ) (v : Verdict)
+module _ (k : Kind) (i j : ℕ) (r d : List ℕ) (len : ℕ) (h : List ℕ) (used : ℕ) (v : Validity)
     (e : v ≡ refusesKnown k i j r (length d) (take len d)) where
-  pub known-refused : (n p : ℕ) → v ≡ Refused n p → left (answer.Refused n p) d h ≡ knownStep k i j r (lent d len h used)
+  pub known-refused : (n p : ℕ) → v ≡ Refused n p → outcomeOf (answer.Refused n p) d h ≡ knownStep k i j r (stateOf d len h used)
   unfolding knownStep knownRule knownOutcome refused fileOf
   known-refused n p g = rw (sym e ∙ g, then-refused (Refused n p) _ n p refl)
 
-  module _ (g : v ≡ Good) (p : Plan) (is : planned p r (take len d) ≡ result k i j r (take len d)) (s : Span)
+  module _ (g : v ≡ Valid) (p : Plan) (is : planned p r (take len d) ≡ result k i j r (take len d)) (s : Span)
       (at : s ≡ spanOf (entryOf (take len d) (planned p r (take len d)))) where
-    rule-37 : knownRule k i j r (lent d len h used) ≡ unless (leb (spanSize s) (length h)) 37 0
+    rule-37 : knownRule k i j r (stateOf d len h used) ≡ unless (leb (spanSize s) (length h)) 37 0
     unfolding knownRule fileOf
     rule-37 =
         let n : spanSize s ≡ entrySize (entryOf (take len d) (result k i j r (take len d))) =
         ap spanSize at ∙ span-size (entryOf (take len d) (planned p r (take len d))) ∙ ap (λ (x : List ℕ). entrySize (entryOf (take len d) x)) is
         in
-        good-then _ _ (sym e ∙ g) ∙ rw n
+        valid-then _ _ (sym e ∙ g) ∙ rw n
 
-    pub known-full : length h < spanSize s → left (answer.Refused 37 0) d h ≡ knownStep k i j r (lent d len h used)
+    pub known-full : length h < spanSize s → outcomeOf (answer.Refused 37 0) d h ≡ knownStep k i j r (stateOf d len h used)
     unfolding knownStep knownOutcome refused unless
     known-full q = rw (rule-37, lt-leb (spanSize s) (length h) q)
 
-    pub known-made : spanSize s ≤ length h → committed (planned p r (take len d)) (lent d len h used) ≡ knownStep k i j r (lent d len h used)
+    pub known-made : spanSize s ≤ length h → committed (planned p r (take len d)) (stateOf d len h used) ≡ knownStep k i j r (stateOf d len h used)
     unfolding knownStep knownOutcome unless fileOf
     known-made q = rw (rule-37, le-leb (spanSize s) (length h) q, is)

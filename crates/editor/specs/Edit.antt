@@ -4,26 +4,26 @@ use mathlib.Core.Path.{_≡_}
 use mathlib.Core.List.{List}
 use lib.ListN.{length, take}
 use Rattle.fields.specs.Rule.{_then_}
-use Rattle.fields.specs.declared.rule.Verdict.{Verdict}
-use Rattle.fields.specs.declared.rule.Verdict.the-variants.{Good, Refused}
+use Rattle.fields.specs.declared.rule.Validity.{Validity}
+use Rattle.fields.specs.declared.rule.Validity.the-variants.{Valid, Refused}
 use Rattle.journal.specs.Entry.{aloneRule}
 use Rattle.journal.specs.Change.{entryOf}
 use Rattle.journal.specs.Span.{spanOf, spanSize, recordedIn}
 use Rattle.journal.specs.declared.recording.Span.{Span}
 use Rattle.journal.specs.Machine.{State, Outcome, fileOf, historyOf, buffersRule, refused, done}
-use Rattle.plug.specs.declared.Kind.{Kind}
+use Rattle.model.specs.declared.Kind.{Kind}
 use Rattle.edits.specs.Result.{result}
-use Rattle.edits.specs.Setting.{refusesKnown, editing}
+use Rattle.edits.specs.Editing.{refusesKnown, editing}
 use Rattle.plan.specs.declared.Plan.{Plan}
 use Rattle.plan.specs.Plan.{planned}
 use Rattle.plan.specs.Fits.{Fits}
-use Rattle.preconditions.specs.Calls.{lent}
+use Rattle.preconditions.specs.Calls.{stateOf}
 
--- buffers that stand, a plan for the room's content whose file fits the room, and the place and lengths of that change, whose entry fits
+-- buffers that meet the preconditions, a plan for the room's content whose file fits the room, and the place and lengths of that change, whose entry fits
 -- the history
 abbrev pub Committable : List ℕ → ℕ → List ℕ → ℕ → Plan → Span → List ℕ → Type 0
 Committable room len history used plan s bytes =
-    ((buffersRule editing (lent room len history used) ≡ Good) × (Fits plan bytes (take len room)))
+    ((buffersRule editing (stateOf room len history used) ≡ Valid) × (Fits plan bytes (take len room)))
     × (((length (planned plan bytes (take len room)) ≤ length room) × (length (planned plan bytes (take len room)) ≤ 1_048_576))
     × ((s ≡ spanOf (entryOf (take len room) (planned plan bytes (take len room)))) × (spanSize s ≤ length history)))
 
@@ -31,14 +31,14 @@ Committable room len history used plan s bytes =
 unfoldable pub committed : List ℕ → State → Outcome
 committed s m = done s (recordedIn (length (m .history)) (entryOf (fileOf m) s) (historyOf m)) m
 
--- what refuses an edit of a known kind, where both buffers stand
-unfoldable pub knownRule : Kind → ℕ → ℕ → List ℕ → State → Verdict
+-- what refuses an edit of a known kind, where both buffers meet the preconditions
+unfoldable pub knownRule : Kind → ℕ → ℕ → List ℕ → State → Validity
 knownRule k i j r m =
     refusesKnown k i j r (length (m .room)) (fileOf m)
     then aloneRule (entryOf (fileOf m) (result k i j r (fileOf m))) (length (m .history))
 
-unfoldable pub knownOutcome : Verdict → Kind → ℕ → ℕ → List ℕ → State → Outcome
-knownOutcome Good k i j r m = committed (result k i j r (fileOf m)) m
+unfoldable pub knownOutcome : Validity → Kind → ℕ → ℕ → List ℕ → State → Outcome
+knownOutcome Valid k i j r m = committed (result k i j r (fileOf m)) m
 knownOutcome (Refused n p) k i j r m = refused n p m
 
 unfoldable pub knownStep : Kind → ℕ → ℕ → List ℕ → State → Outcome

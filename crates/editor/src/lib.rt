@@ -1,27 +1,27 @@
 // An edit made in place, and its entry recorded.
 use edit_check::refusal::refusal;
 use edit_plan::plan_of;
-use fields::rule::Verdict;
+use fields::rule::Validity;
+use format::refusals::HISTORY_TOO_SMALL;
 use format::refusals::NO_EDIT;
-use format::refusals::NO_HISTORY;
 use journal::answer::Answer;
 use journal::recording::Span;
 use journal::recording::entry_size;
 use journal::recording::record_entry;
+use model::Kind;
+use model::KindRead;
+use model::kind_of;
 use plan::Plan;
 use plan_apply::make;
 use plan_span::span;
-use plug::Kind;
-use plug::KindRead;
-use plug::kind_of;
-use preconditions::standing;
+use preconditions::check;
 ghost use mathlib.Core.Path.{_≡_};
 ghost use lib.ListN.{take};
-ghost use Rattle.fields.specs.declared.rule.Verdict.the-variants.{Good};
+ghost use Rattle.fields.specs.declared.rule.Validity.the-variants.{Valid};
 ghost use Rattle.journal.specs.Machine.{buffersRule, editStep};
 ghost use Rattle.plan.specs.Plan.{planned};
-ghost use Rattle.edits.specs.Setting.{editing};
-ghost use Rattle.preconditions.specs.Calls.{lent, left, asked};
+ghost use Rattle.edits.specs.Editing.{editing};
+ghost use Rattle.preconditions.specs.Calls.{stateOf, outcomeOf, editRequest};
 ghost use Rattle.editor.specs.Edit.{Committable, committed, knownStep};
 
 // Records a change whose place and lengths are s, then makes it.
@@ -35,8 +35,8 @@ fn commit(
     bytes: &[u8],
 ) -> Answer
     requires { ⌜ Committable (now room) len (now history) used plan s (now bytes) ⌝ }
-    ensures { λ r. ⌜ left r (now (room .exit)) (now (history .exit))
-        ≡ committed (planned plan (now (bytes .entry)) (take len (now (room .entry)))) (lent (now (room .entry)) len (now (history .entry)) used) ⌝ }
+    ensures { λ r. ⌜ outcomeOf r (now (room .exit)) (now (history .exit))
+        ≡ committed (planned plan (now (bytes .entry)) (take len (now (room .entry)))) (stateOf (now (room .entry)) len (now (history .entry)) used) ⌝ }
 {
     let from = s.place;
     let taken = s.taken;
@@ -57,17 +57,17 @@ fn edit_known(
     j: usize,
     bytes: &[u8],
 ) -> Answer
-    requires { ⌜ buffersRule editing (lent (now room) len (now history) used) ≡ Good ⌝ }
-    ensures { λ r. ⌜ left r (now (room .exit)) (now (history .exit)) ≡ knownStep k i j (now (bytes .entry)) (lent (now (room .entry)) len (now (history .entry)) used) ⌝ }
+    requires { ⌜ buffersRule editing (stateOf (now room) len (now history) used) ≡ Valid ⌝ }
+    ensures { λ r. ⌜ outcomeOf r (now (room .exit)) (now (history .exit)) ≡ knownStep k i j (now (bytes .entry)) (stateOf (now (room .entry)) len (now (history .entry)) used) ⌝ }
 {
     let size = room.len();
-    if let Verdict::Refused(n, p) = refusal(&room[..len], size, k, i, j, bytes) {
+    if let Validity::Refused(n, p) = refusal(&room[..len], size, k, i, j, bytes) {
         return Answer::Refused(n, p);
     }
     let plan = plan_of(&room[..len], k, i, j);
     let s = span(&room[..len], plan, bytes);
     if history.len() < entry_size(s) {
-        return Answer::Refused(NO_HISTORY, 0);
+        return Answer::Refused(HISTORY_TOO_SMALL, 0);
     }
     commit(room, len, history, used, plan, s, bytes)
 }
@@ -83,10 +83,10 @@ pub fn edit(
     second: usize,
     bytes: &[u8],
 ) -> Answer
-    ensures { λ r. ⌜ left r (now (room .exit)) (now (history .exit)) ≡ editStep editing
-        (asked kind first second (now (bytes .entry))) (lent (now (room .entry)) len (now (history .entry)) used) ⌝ }
+    ensures { λ r. ⌜ outcomeOf r (now (room .exit)) (now (history .exit)) ≡ editStep editing
+        (editRequest kind first second (now (bytes .entry))) (stateOf (now (room .entry)) len (now (history .entry)) used) ⌝ }
 {
-    if let Verdict::Refused(n, p) = standing(room, len, history, used) {
+    if let Validity::Refused(n, p) = check(room, len, history, used) {
         return Answer::Refused(n, p);
     }
     match kind_of(kind) {

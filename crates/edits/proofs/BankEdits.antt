@@ -1,5 +1,5 @@
 -- Edits 7 to 11: banks inserted, removed and changed. Of the result only the new name or entry can refuse, since every other bank is
--- good wherever it stands.
+-- valid wherever it stands.
 use Prim.Native.Nat.{ℕ, suc, _+_, _*_, _^_, _≤_, _<_}
 use mathlib.Core.Path.{_≡_, ap, _∙_}
 use mathlib.Core.List.{List, [], _∷_, _++_}
@@ -9,16 +9,16 @@ use lib.Seq.{drop-cons}
 use lib.Dec.{leb}
 use borrow.Author.Tests.{le-leb}
 use Rattle.fields.specs.Rule.{_then_, unless}
-use Rattle.fields.specs.declared.rule.Verdict.the-variants.{Good}
-use Rattle.fields.proofs.Laws.{then-of-good, unless-passes}
+use Rattle.fields.specs.declared.rule.Validity.the-variants.{Valid}
+use Rattle.fields.proofs.Laws.{then-of-valid, unless-passes}
 use Rattle.layout.specs.Banks.{bankPlace}
 use Rattle.file_rule.specs.File.{fileRule}
-use Rattle.plug.specs.Plug.{Bank, Plug, bankBytes, plugBytes}
-use Rattle.plug.specs.Edits.{insertAt, removeAt, replaceAt, withBanks}
-use Rattle.plug.proofs.Blocks.{Every, every-take, every-drop, banksBytes, banksBytes-cons, banksBytes-append, banksBytes-split, length-bankBytes}
-use Rattle.plug.proofs.Shape.{BankShaped, Shaped, tableStart, length-plug, bank-place}
-use Rattle.plug.proofs.Judged.{bankOk, banksOk, BankGood, banksOk-append, banksOk-passes}
-use Rattle.edits.proofs.Accepted.{Accepted, file-judged, contacts-pass, channels-pass}
+use Rattle.model.specs.Codeplug.{Bank, Codeplug, bankBytes, codeplugBytes}
+use Rattle.model.specs.Edits.{insertAt, removeAt, replaceAt, withBanks}
+use Rattle.model.proofs.Blocks.{Every, every-take, every-drop, banksBytes, banksBytes-cons, banksBytes-append, banksBytes-split, length-bankBytes}
+use Rattle.model.proofs.Shape.{BankShaped, Shaped, tableStart, length-codeplug, bank-place}
+use Rattle.model.proofs.Validated.{bankOk, banksOk, BankValid, banksOk-append, banksOk-passes}
+use Rattle.edits.proofs.AcceptedCodeplug.{AcceptedCodeplug, file-validated, contacts-pass, channels-pass}
 use Rattle.edits.proofs.ListEdits.{length-insert, length-remove, length-replace, every-insert, every-remove, every-replace}
 
 -- ---- the bytes of banks
@@ -64,9 +64,9 @@ bytes-replace i b l h =
       length-split l i,
     )
 
--- ---- one bank among good ones
+-- ---- one bank among valid ones
 
-one-bank : (n p : ℕ) (a : List Bank) (b : Bank) (z : List Bank) → Every (BankGood n) a → Every (BankGood n) z
+one-bank : (n p : ℕ) (a : List Bank) (b : Bank) (z : List Bank) → Every (BankValid n) a → Every (BankValid n) z
     → banksOk n p (a ++ (b ∷ z)) ≡ bankOk n (p + length (banksBytes a)) b
 unfolding _then_ banksOk
 one-bank n p a b z ha hz =
@@ -75,24 +75,24 @@ one-bank n p a b z ha hz =
       banksOk-passes n p a ha,
       banksOk-passes n (p + length (banksBytes a) + length (bankBytes b)) z hz,
     )
-    (then-of-good (bankOk n (p + length (banksBytes a)) b))
+    (then-of-valid (bankOk n (p + length (banksBytes a)) b))
 
-pub insert-ok : (n p i : ℕ) (b : Bank) (l : List Bank) → Every (BankGood n) l
+pub insert-ok : (n p i : ℕ) (b : Bank) (l : List Bank) → Every (BankValid n) l
     → banksOk n p (insertAt i b l) ≡ bankOk n (p + length (banksBytes (take i l))) b
 unfolding insertAt
-insert-ok n p i b l h = one-bank n p (take i l) b (drop i l) (every-take (BankGood n) i l h) (every-drop (BankGood n) i l h)
+insert-ok n p i b l h = one-bank n p (take i l) b (drop i l) (every-take (BankValid n) i l h) (every-drop (BankValid n) i l h)
 
-pub replace-ok : (n p i : ℕ) (b : Bank) (l : List Bank) → Every (BankGood n) l
+pub replace-ok : (n p i : ℕ) (b : Bank) (l : List Bank) → Every (BankValid n) l
     → banksOk n p (replaceAt i b l) ≡ bankOk n (p + length (banksBytes (take i l))) b
 unfolding replaceAt
 replace-ok n p i b l h =
-    one-bank n p (take i l) b (drop (suc i) l) (every-take (BankGood n) i l h) (every-drop (BankGood n) (suc i) l h)
+    one-bank n p (take i l) b (drop (suc i) l) (every-take (BankValid n) i l h) (every-drop (BankValid n) (suc i) l h)
 
 -- ---- other banks
 
-module _ (c : Plug) (a : Accepted c) where
+module _ (c : Codeplug) (a : AcceptedCodeplug c) where
   banks-short : length (banksBytes (c .banks)) ≤ 1_048_576
-  banks-short = omega (arith, a .short, length-plug c (a .shaped))
+  banks-short = omega (arith, a .short, length-codeplug c (a .shaped))
 
   module _ (l : List Bank) where
     shaped-banks : length l < 65536 → Every BankShaped l → length (banksBytes l) < 2 ^ 32 → Shaped (withBanks l c)
@@ -114,27 +114,27 @@ module _ (c : Plug) (a : Accepted c) where
         }
 
     module _ (h : Shaped (withBanks l c)) where
-      banks-length : length (plugBytes (withBanks l c)) ≡ tableStart c + length l * 4 + length (banksBytes l)
+      banks-length : length (codeplugBytes (withBanks l c)) ≡ tableStart c + length l * 4 + length (banksBytes l)
       unfolding withBanks
-      banks-length = length-plug (withBanks l c) h
+      banks-length = length-codeplug (withBanks l c) h
 
       -- after the length only the banks can refuse
-      banks-result : fileRule (plugBytes (withBanks l c))
-          ≡ unless (leb (length (plugBytes (withBanks l c))) 1_048_576) 1 0
+      banks-result : fileRule (codeplugBytes (withBanks l c))
+          ≡ unless (leb (length (codeplugBytes (withBanks l c))) 1_048_576) 1 0
           then banksOk (length (c .channels)) (tableStart c + length l * 4) l
       unfolding withBanks _then_
       banks-result =
-          file-judged (withBanks l c) h
+          file-validated (withBanks l c) h
           ∙ rw (a .preamble, contacts-pass 88 (c .contacts) (a .contacts), channels-pass (c .contacts) _ (c .channels) (a .channels))
 
       -- no longer than before
-      banks-result-short : length (plugBytes (withBanks l c)) ≤ length (plugBytes c)
-          → fileRule (plugBytes (withBanks l c)) ≡ banksOk (length (c .channels)) (tableStart c + length l * 4) l
+      banks-result-short : length (codeplugBytes (withBanks l c)) ≤ length (codeplugBytes c)
+          → fileRule (codeplugBytes (withBanks l c)) ≡ banksOk (length (c .channels)) (tableStart c + length l * 4) l
       unfolding _then_
       banks-result-short s =
           banks-result
-          ∙ rw (unless-passes (leb (length (plugBytes (withBanks l c))) 1_048_576) 1 0
-          (le-leb (length (plugBytes (withBanks l c))) 1_048_576 (omega (arith, a .short))))
+          ∙ rw (unless-passes (leb (length (codeplugBytes (withBanks l c))) 1_048_576) 1 0
+          (le-leb (length (codeplugBytes (withBanks l c))) 1_048_576 (omega (arith, a .short))))
 
   -- ---- bank i removed
 
@@ -146,16 +146,16 @@ module _ (c : Plug) (a : Accepted c) where
         shaped-banks (removeAt i l) (omega (arith, length-remove i l g, h .banksFit)) (every-remove BankShaped i l (h .banks))
         (omega (arith, bytes-remove i l g, h .offsetsFit))
 
-    pub remove-bank-judged : fileRule (plugBytes (withBanks (removeAt i (c .banks)) c)) ≡ Good
-    remove-bank-judged =
+    pub remove-bank-validated : fileRule (codeplugBytes (withBanks (removeAt i (c .banks)) c)) ≡ Valid
+    remove-bank-validated =
         let l = c .banks in
         let n = length (c .channels) in
         let h = shaped-remove-bank in
-        let short : length (plugBytes (withBanks (removeAt i l) c)) ≤ length (plugBytes c) =
-        omega (arith, banks-length (removeAt i l) h, length-plug c (a .shaped), length-remove i l g, bytes-remove i l g)
+        let short : length (codeplugBytes (withBanks (removeAt i l) c)) ≤ length (codeplugBytes c) =
+        omega (arith, banks-length (removeAt i l) h, length-codeplug c (a .shaped), length-remove i l g, bytes-remove i l g)
         in
         banks-result-short (removeAt i l) h short
-        ∙ banksOk-passes n (tableStart c + length (removeAt i l) * 4) (removeAt i l) (every-remove (BankGood n) i l (a .banks))
+        ∙ banksOk-passes n (tableStart c + length (removeAt i l) * 4) (removeAt i l) (every-remove (BankValid n) i l (a .banks))
 
   -- ---- b in place of bank i
 
@@ -168,37 +168,37 @@ module _ (c : Plug) (a : Accepted c) where
         (every-replace BankShaped i b l s (h .banks))
         (omega (arith, bytes-replace i b l g, banks-short, length-bankBytes b (s .wide), s .fits))
 
-    pub length-replace-bank : length (plugBytes (withBanks (replaceAt i b (c .banks)) c)) + length (bankBytes (getD (c .banks) i noBank))
-        ≡ length (plugBytes c) + length (bankBytes b)
+    pub length-replace-bank : length (codeplugBytes (withBanks (replaceAt i b (c .banks)) c)) + length (bankBytes (getD (c .banks) i noBank))
+        ≡ length (codeplugBytes c) + length (bankBytes b)
     length-replace-bank =
         let l = c .banks in
         omega (
           arith,
           banks-length (replaceAt i b l) shaped-replace-bank,
-          length-plug c (a .shaped),
+          length-codeplug c (a .shaped),
           length-replace i b l g,
           bytes-replace i b l g,
         )
 
-    replaced-judged : banksOk (length (c .channels)) (tableStart c + length (replaceAt i b (c .banks)) * 4) (replaceAt i b (c .banks))
-        ≡ bankOk (length (c .channels)) (bankPlace (plugBytes c) i) b
-    replaced-judged =
+    replaced-validated : banksOk (length (c .channels)) (tableStart c + length (replaceAt i b (c .banks)) * 4) (replaceAt i b (c .banks))
+        ≡ bankOk (length (c .channels)) (bankPlace (codeplugBytes c) i) b
+    replaced-validated =
         let l = c .banks in
         let n = length (c .channels) in
-        let e : tableStart c + length (replaceAt i b l) * 4 + length (banksBytes (take i l)) ≡ bankPlace (plugBytes c) i =
+        let e : tableStart c + length (replaceAt i b l) * 4 + length (banksBytes (take i l)) ≡ bankPlace (codeplugBytes c) i =
         omega (arith, length-replace i b l g, bank-place c (a .shaped) i (omega arith))
         in
         replace-ok n (tableStart c + length (replaceAt i b l) * 4) i b l (a .banks) ∙ ap (λ (p : ℕ). bankOk n p b) e
 
-    pub replace-bank-judged : fileRule (plugBytes (withBanks (replaceAt i b (c .banks)) c))
-        ≡ unless (leb (length (plugBytes (withBanks (replaceAt i b (c .banks)) c))) 1_048_576) 1 0
-        then bankOk (length (c .channels)) (bankPlace (plugBytes c) i) b
-    replace-bank-judged = banks-result (replaceAt i b (c .banks)) shaped-replace-bank ∙ rw replaced-judged
+    pub replace-bank-validated : fileRule (codeplugBytes (withBanks (replaceAt i b (c .banks)) c))
+        ≡ unless (leb (length (codeplugBytes (withBanks (replaceAt i b (c .banks)) c))) 1_048_576) 1 0
+        then bankOk (length (c .channels)) (bankPlace (codeplugBytes c) i) b
+    replace-bank-validated = banks-result (replaceAt i b (c .banks)) shaped-replace-bank ∙ rw replaced-validated
 
     pub replace-bank-short : length (bankBytes b) ≤ length (bankBytes (getD (c .banks) i noBank))
-        → fileRule (plugBytes (withBanks (replaceAt i b (c .banks)) c)) ≡ bankOk (length (c .channels)) (bankPlace (plugBytes c) i) b
+        → fileRule (codeplugBytes (withBanks (replaceAt i b (c .banks)) c)) ≡ bankOk (length (c .channels)) (bankPlace (codeplugBytes c) i) b
     replace-bank-short z =
-        banks-result-short (replaceAt i b (c .banks)) shaped-replace-bank (omega (arith, length-replace-bank)) ∙ replaced-judged
+        banks-result-short (replaceAt i b (c .banks)) shaped-replace-bank (omega (arith, length-replace-bank)) ∙ replaced-validated
 
   -- ---- b before bank i
 
@@ -210,24 +210,24 @@ module _ (c : Plug) (a : Accepted c) where
         shaped-banks (insertAt i b l) (omega (arith, length-insert i b l g)) (every-insert BankShaped i b l s (h .banks))
         (omega (arith, bytes-insert i b l, banks-short, length-bankBytes b (s .wide), s .fits))
 
-    length-insert-bank : length (plugBytes (withBanks (insertAt i b (c .banks)) c)) ≡ length (plugBytes c) + (4 + length (bankBytes b))
+    length-insert-bank : length (codeplugBytes (withBanks (insertAt i b (c .banks)) c)) ≡ length (codeplugBytes c) + (4 + length (bankBytes b))
     length-insert-bank =
         let l = c .banks in
         omega (
           arith,
           banks-length (insertAt i b l) shaped-insert-bank,
-          length-plug c (a .shaped),
+          length-codeplug c (a .shaped),
           length-insert i b l g,
           bytes-insert i b l,
         )
 
-    pub insert-bank-judged : fileRule (plugBytes (withBanks (insertAt i b (c .banks)) c))
-        ≡ unless (leb (length (plugBytes c) + (4 + length (bankBytes b))) 1_048_576) 1 0
-        then bankOk (length (c .channels)) (bankPlace (plugBytes c) i + 4) b
-    insert-bank-judged =
+    pub insert-bank-validated : fileRule (codeplugBytes (withBanks (insertAt i b (c .banks)) c))
+        ≡ unless (leb (length (codeplugBytes c) + (4 + length (bankBytes b))) 1_048_576) 1 0
+        then bankOk (length (c .channels)) (bankPlace (codeplugBytes c) i + 4) b
+    insert-bank-validated =
         let l = c .banks in
         let m = length (c .channels) in
-        let e : tableStart c + length (insertAt i b l) * 4 + length (banksBytes (take i l)) ≡ bankPlace (plugBytes c) i + 4 =
+        let e : tableStart c + length (insertAt i b l) * 4 + length (banksBytes (take i l)) ≡ bankPlace (codeplugBytes c) i + 4 =
         omega (arith, length-insert i b l g, bank-place c (a .shaped) i g)
         in
         banks-result (insertAt i b l) shaped-insert-bank

@@ -9,20 +9,20 @@ use lib.Dec.{ltb}
 use Rattle.fields.specs.Bytes.{little}
 use Rattle.text.specs.Text.{textOk}
 use Rattle.fields.specs.Rule.{_then_, unless}
-use Rattle.fields.specs.declared.rule.Verdict.the-variants.{Good}
-use Rattle.fields.proofs.Laws.{then-of-good, unless-passes, AllBytes, little-lt}
+use Rattle.fields.specs.declared.rule.Validity.the-variants.{Valid}
+use Rattle.fields.proofs.Laws.{then-of-valid, unless-passes, AllBytes, little-lt}
 use Rattle.layout.specs.Banks.{bankPlace}
 use Rattle.file_rule.specs.File.{fileRule}
-use Rattle.plug.specs.Plug.{Bank, Plug, bankBytes, plugBytes}
-use Rattle.plug.specs.Edits.{insertAt, removeAt, replaceAt, changeAt, withBanks, renamed, withEntries}
-use Rattle.plug.specs.EditRules.{entriesIn}
-use Rattle.plug.proofs.Blocks.{Every, Small, every-getD, every-take, every-drop, length-bankBytes}
-use Rattle.plug.proofs.Shape.{BankShaped, Shaped}
-use Rattle.plug.proofs.Judged.{entriesOf, entriesOf-append, entriesOf-passes, bankOk, bankOk-passes, BankGood}
-use Rattle.edits.specs.Foretold.{mayGrow}
-use Rattle.edits.proofs.Accepted.{Accepted}
+use Rattle.model.specs.Codeplug.{Bank, Codeplug, bankBytes, codeplugBytes}
+use Rattle.model.specs.Edits.{insertAt, removeAt, replaceAt, changeAt, withBanks, renamed, withEntries}
+use Rattle.model.specs.EditRules.{entriesIn}
+use Rattle.model.proofs.Blocks.{Every, Small, every-getD, every-take, every-drop, length-bankBytes}
+use Rattle.model.proofs.Shape.{BankShaped, Shaped}
+use Rattle.model.proofs.Validated.{entriesOf, entriesOf-append, entriesOf-passes, bankOk, bankOk-passes, BankValid}
+use Rattle.edits.specs.ResultValidity.{mayGrow}
+use Rattle.edits.proofs.AcceptedCodeplug.{AcceptedCodeplug}
 use Rattle.edits.proofs.ListEdits.{length-insert, length-remove, change-is, every-insert, every-remove}
-use Rattle.edits.proofs.BankEdits.{noBank, shaped-replace-bank, length-replace-bank, replace-bank-judged, replace-bank-short, shaped-insert-bank, insert-bank-judged}
+use Rattle.edits.proofs.BankEdits.{noBank, shaped-replace-bank, length-replace-bank, replace-bank-validated, replace-bank-short, shaped-insert-bank, insert-bank-validated}
 
 -- how many entries bank i has
 pub entries-in : (i : ℕ) (l : List Bank) → entriesIn i l ≡ length (getD l i noBank .entries)
@@ -31,7 +31,7 @@ entries-in i [] = refl
 entries-in zero (b ∷ l) = refl
 entries-in (suc i) (b ∷ l) = entries-in i l
 
--- one entry among good ones
+-- one entry among valid ones
 one-entry : (n p j v : ℕ) (l : List ℕ) → j ≤ length l → Every (λ x. x < n) l
     → entriesOf n p (insertAt j v l) ≡ unless (ltb v n) 11 (p + j * 2)
 unfolding insertAt _then_ entriesOf
@@ -43,9 +43,9 @@ one-entry n p j v l h g =
       e,
       entriesOf-passes n (p + j * 2 + 2) (drop j l) (every-drop (λ x. x < n) j l g),
     )
-    (then-of-good (unless (ltb v n) 11 (p + j * 2)))
+    (then-of-valid (unless (ltb v n) 11 (p + j * 2)))
 
-module _ (c : Plug) (a : Accepted c) where
+module _ (c : Codeplug) (a : AcceptedCodeplug c) where
   -- ---- 7
 
   module _ (i : ℕ) (r : List ℕ) (g : i ≤ length (c .banks)) (m : length (c .banks) < 65535) (w : length r ≡ 32) (b : AllBytes r) where
@@ -55,15 +55,15 @@ module _ (c : Plug) (a : Accepted c) where
     pub shaped-insert : Shaped (withBanks (insertAt i (record { name = r; entries = [] }) (c .banks)) c)
     shaped-insert = shaped-insert-bank c a i (record { name = r; entries = [] }) g m empty-shaped
 
-    pub insert-bank-is : fileRule (plugBytes (withBanks (insertAt i (record { name = r; entries = [] }) (c .banks)) c))
-        ≡ mayGrow 38 (plugBytes c) then unless (textOk r) 5 (bankPlace (plugBytes c) i + 4)
+    pub insert-bank-is : fileRule (codeplugBytes (withBanks (insertAt i (record { name = r; entries = [] }) (c .banks)) c))
+        ≡ mayGrow 38 (codeplugBytes c) then unless (textOk r) 5 (bankPlace (codeplugBytes c) i + 4)
     unfolding mayGrow bankOk entriesOf
     insert-bank-is =
         let e : 4 + length (bankBytes (record { name = r; entries = [] })) ≡ 38 =
         omega (arith, length-bankBytes (record { name = r; entries = [] }) w)
         in
-        insert-bank-judged c a i (record { name = r; entries = [] }) g m empty-shaped
-        ∙ rw (e, then-of-good (unless (textOk r) 5 (bankPlace (plugBytes c) i + 4)))
+        insert-bank-validated c a i (record { name = r; entries = [] }) g m empty-shaped
+        ∙ rw (e, then-of-valid (unless (textOk r) 5 (bankPlace (codeplugBytes c) i + 4)))
 
   module _ (i : ℕ) (g : i < length (c .banks)) where
     -- bank i
@@ -73,8 +73,8 @@ module _ (c : Plug) (a : Accepted c) where
     old-shaped : BankShaped old
     old-shaped = every-getD BankShaped (c .banks) i noBank (a .shaped .banks) g
 
-    old-good : BankGood (length (c .channels)) old
-    old-good = every-getD (BankGood (length (c .channels))) (c .banks) i noBank (a .banks) g
+    old-valid : BankValid (length (c .channels)) old
+    old-valid = every-getD (BankValid (length (c .channels))) (c .banks) i noBank (a .banks) g
 
     -- ---- 9
 
@@ -87,19 +87,19 @@ module _ (c : Plug) (a : Accepted c) where
       unfolding renamed
       named-length = length-bankBytes (renamed r old) w ∙ sym (length-bankBytes old (old-shaped .wide))
 
-      named-ok : (n p : ℕ) → BankGood n old → bankOk n p (renamed r old) ≡ unless (textOk r) 5 p
+      named-ok : (n p : ℕ) → BankValid n old → bankOk n p (renamed r old) ≡ unless (textOk r) 5 p
       unfolding renamed bankOk
-      named-ok n p h = rw (entriesOf-passes n (p + 34) (old .entries) (h .below)) (then-of-good (unless (textOk r) 5 p))
+      named-ok n p h = rw (entriesOf-passes n (p + 34) (old .entries) (h .below)) (then-of-valid (unless (textOk r) 5 p))
 
       pub shaped-rename : Shaped (withBanks (changeAt i (renamed r) (c .banks)) c)
       shaped-rename = rw (change-is i (renamed r) (c .banks) noBank g) (shaped-replace-bank c a i (renamed r old) g named-shaped)
 
-      pub rename-bank-is : fileRule (plugBytes (withBanks (changeAt i (renamed r) (c .banks)) c))
-          ≡ unless (textOk r) 5 (bankPlace (plugBytes c) i)
+      pub rename-bank-is : fileRule (codeplugBytes (withBanks (changeAt i (renamed r) (c .banks)) c))
+          ≡ unless (textOk r) 5 (bankPlace (codeplugBytes c) i)
       rename-bank-is =
           rw (change-is i (renamed r) (c .banks) noBank g)
           (replace-bank-short c a i (renamed r old) g named-shaped (omega (arith, named-length))
-          ∙ named-ok (length (c .channels)) (bankPlace (plugBytes c) i) old-good)
+          ∙ named-ok (length (c .channels)) (bankPlace (codeplugBytes c) i) old-valid)
 
     -- ---- 10
 
@@ -134,7 +134,7 @@ module _ (c : Plug) (a : Accepted c) where
               length-insert j (little r) (old .entries) in-old,
             )
 
-        fuller-ok : (n p : ℕ) → BankGood n old → bankOk n p fuller ≡ unless (ltb (little r) n) 11 (p + 34 + j * 2)
+        fuller-ok : (n p : ℕ) → BankValid n old → bankOk n p fuller ≡ unless (ltb (little r) n) 11 (p + 34 + j * 2)
         unfolding withEntries bankOk _then_
         fuller-ok n p h =
             rw (unless-passes (textOk (old .name)) 5 p (h .text)) (one-entry n (p + 34) j (little r) (old .entries) in-old (h .below))
@@ -143,16 +143,16 @@ module _ (c : Plug) (a : Accepted c) where
         shaped-insert-entry =
             rw (change-is i (withEntries (insertAt j (little r))) (c .banks) noBank g) (shaped-replace-bank c a i fuller g fuller-shaped)
 
-        pub insert-entry-is : fileRule (plugBytes (withBanks (changeAt i (withEntries (insertAt j (little r))) (c .banks)) c))
-            ≡ mayGrow 2 (plugBytes c) then unless (ltb (little r) (length (c .channels))) 11 (bankPlace (plugBytes c) i + 34 + j * 2)
+        pub insert-entry-is : fileRule (codeplugBytes (withBanks (changeAt i (withEntries (insertAt j (little r))) (c .banks)) c))
+            ≡ mayGrow 2 (codeplugBytes c) then unless (ltb (little r) (length (c .channels))) 11 (bankPlace (codeplugBytes c) i + 34 + j * 2)
         unfolding mayGrow
         insert-entry-is =
-            let e : length (plugBytes (withBanks (replaceAt i fuller (c .banks)) c)) ≡ length (plugBytes c) + 2 =
+            let e : length (codeplugBytes (withBanks (replaceAt i fuller (c .banks)) c)) ≡ length (codeplugBytes c) + 2 =
             omega (arith, length-replace-bank c a i fuller g fuller-shaped, fuller-length)
             in
             rw (change-is i (withEntries (insertAt j (little r))) (c .banks) noBank g)
-            (replace-bank-judged c a i fuller g fuller-shaped
-            ∙ rw (e, fuller-ok (length (c .channels)) (bankPlace (plugBytes c) i) old-good))
+            (replace-bank-validated c a i fuller g fuller-shaped
+            ∙ rw (e, fuller-ok (length (c .channels)) (bankPlace (codeplugBytes c) i) old-valid))
 
     -- ---- 11
 
@@ -183,17 +183,17 @@ module _ (c : Plug) (a : Accepted c) where
             length-remove j (old .entries) below-old,
           )
 
-      emptier-good : (n : ℕ) → BankGood n old → BankGood n emptier
+      emptier-valid : (n : ℕ) → BankValid n old → BankValid n emptier
       unfolding withEntries
-      emptier-good n h = record { text = h .text; below = every-remove (λ x. x < n) j (old .entries) (h .below) }
+      emptier-valid n h = record { text = h .text; below = every-remove (λ x. x < n) j (old .entries) (h .below) }
 
       pub shaped-remove-entry : Shaped (withBanks (changeAt i (withEntries (removeAt j)) (c .banks)) c)
       shaped-remove-entry =
           rw (change-is i (withEntries (removeAt j)) (c .banks) noBank g) (shaped-replace-bank c a i emptier g emptier-shaped)
 
-      pub remove-entry-is : fileRule (plugBytes (withBanks (changeAt i (withEntries (removeAt j)) (c .banks)) c)) ≡ Good
+      pub remove-entry-is : fileRule (codeplugBytes (withBanks (changeAt i (withEntries (removeAt j)) (c .banks)) c)) ≡ Valid
       remove-entry-is =
           let n = length (c .channels) in
           rw (change-is i (withEntries (removeAt j)) (c .banks) noBank g)
           (replace-bank-short c a i emptier g emptier-shaped (omega (arith, emptier-length))
-          ∙ bankOk-passes n (bankPlace (plugBytes c) i) emptier (emptier-good n old-good))
+          ∙ bankOk-passes n (bankPlace (codeplugBytes c) i) emptier (emptier-valid n old-valid))

@@ -10,34 +10,34 @@ use lib.Seq.{length-take-le}
 use lib.Dec.{leb}
 use borrow.Author.Tests.{le-leb}
 use Rattle.fields.specs.Rule.{_then_, unless}
-use Rattle.fields.specs.declared.rule.Verdict.{Verdict}
-use Rattle.fields.specs.declared.rule.Verdict.the-variants.{Good}
-use Rattle.fields.proofs.Laws.{then-of-good, unless-passes, AllBytes}
+use Rattle.fields.specs.declared.rule.Validity.{Validity}
+use Rattle.fields.specs.declared.rule.Validity.the-variants.{Valid}
+use Rattle.fields.proofs.Laws.{then-of-valid, unless-passes, AllBytes}
 use Rattle.channel.specs.Rule.{channelRule}
 use Rattle.layout.specs.Places.{channelPlace}
 use Rattle.file_rule.specs.File.{indexOk, fileRule}
-use Rattle.plug.specs.Plug.{Bank, Plug, bankBytes, plugBytes}
-use Rattle.plug.specs.Edits.{insertAt, removeAt, replaceAt, raised, lowered, moveEntries, withChannels, withBanks, moveChannels}
-use Rattle.plug.specs.EditRules.{someHolds}
-use Rattle.plug.proofs.Blocks.{Every, Wide, Small, every-so, every-map, every-take, every-drop, banksBytes, length-bankBytes}
-use Rattle.plug.proofs.Shape.{BankShaped, Shaped, channelsStart, length-plug, channel-place}
-use Rattle.plug.proofs.Judged.{eachOf, eachOf-append, BankGood, banksOk-passes}
-use Rattle.edits.specs.Foretold.{mayGrow}
-use Rattle.edits.proofs.Accepted.{channelIn, index-ok, file-judged, ChannelGood, contacts-pass, channels-pass, Accepted}
+use Rattle.model.specs.Codeplug.{Bank, Codeplug, bankBytes, codeplugBytes}
+use Rattle.model.specs.Edits.{insertAt, removeAt, replaceAt, raised, lowered, moveEntries, withChannels, withBanks, moveChannels}
+use Rattle.model.specs.EditRules.{someHolds}
+use Rattle.model.proofs.Blocks.{Every, Wide, Small, every-so, every-map, every-take, every-drop, banksBytes, length-bankBytes}
+use Rattle.model.proofs.Shape.{BankShaped, Shaped, channelsStart, length-codeplug, channel-place}
+use Rattle.model.proofs.Validated.{eachOf, eachOf-append, BankValid, banksOk-passes}
+use Rattle.edits.specs.ResultValidity.{mayGrow}
+use Rattle.edits.proofs.AcceptedCodeplug.{channelIn, index-ok, file-validated, ChannelValid, contacts-pass, channels-pass, AcceptedCodeplug}
 use Rattle.edits.proofs.ListEdits.{length-insert, length-remove, length-replace, every-insert, every-remove, every-replace, every-both}
 use Rattle.edits.proofs.Moves.{raised-le, lowered-below, none-holds}
 use Rattle.edits.proofs.BankEdits.{length-cons}
 
--- ---- one record among good ones
+-- ---- one record among valid ones
 
-module _ (rule : List ℕ → ℕ → Verdict) (w : ℕ) (P : List ℕ → Type 0)
-    (pass : (p : ℕ) (l : List (List ℕ)) → Every P l → eachOf rule w p l ≡ Good) where
+module _ (rule : List ℕ → ℕ → Validity) (w : ℕ) (P : List ℕ → Type 0)
+    (pass : (p : ℕ) (l : List (List ℕ)) → Every P l → eachOf rule w p l ≡ Valid) where
   one-record : (p : ℕ) (a : List (List ℕ)) (s : List ℕ) (z : List (List ℕ)) → Every P a → Every P z
       → eachOf rule w p (a ++ (s ∷ z)) ≡ rule s (p + length a * w)
   unfolding _then_ eachOf
   one-record p a s z ha hz =
       eachOf-append rule w p a (s ∷ z)
-      ∙ rw (pass p a ha, pass (p + length a * w + w) z hz) (then-of-good (rule s (p + length a * w)))
+      ∙ rw (pass p a ha, pass (p + length a * w + w) z hz) (then-of-valid (rule s (p + length a * w)))
 
   pub insert-record : (p i : ℕ) (s : List ℕ) (l : List (List ℕ)) → i ≤ length l → Every P l
       → eachOf rule w p (insertAt i s l) ≡ rule s (p + i * w)
@@ -83,13 +83,13 @@ module _ (move : ℕ → ℕ) (n : ℕ) (P : ℕ → Type 0) (below : (x : ℕ) 
         small = every-map P Small move (b .entries) (λ x p. let z = below x p in omega arith) e;
       }
 
-  moved-good : (m : ℕ) (b : Bank) → BankGood m b → Every P (b .entries) → BankGood n (moveEntries move b)
+  moved-valid : (m : ℕ) (b : Bank) → BankValid m b → Every P (b .entries) → BankValid n (moveEntries move b)
   unfolding moveEntries
-  moved-good m b h e = record { text = h .text; below = every-map P (λ x. x < n) move (b .entries) below e }
+  moved-valid m b h e = record { text = h .text; below = every-map P (λ x. x < n) move (b .entries) below e }
 
 -- ---- other channels and banks
 
-module _ (c : Plug) (a : Accepted c) where
+module _ (c : Codeplug) (a : AcceptedCodeplug c) where
   module _ (l : List (List ℕ)) (m : List Bank) where
     shaped-both : length l < 65536 → Wide 90 l → Every AllBytes l → length m < 65536 → Every BankShaped m
         → length (banksBytes m) < 2 ^ 32 → Shaped (withChannels l (withBanks m c))
@@ -111,38 +111,38 @@ module _ (c : Plug) (a : Accepted c) where
         }
 
     module _ (h : Shaped (withChannels l (withBanks m c))) where
-      both-length : length (plugBytes (withChannels l (withBanks m c)))
+      both-length : length (codeplugBytes (withChannels l (withBanks m c)))
           ≡ channelsStart c + length l * 90 + length m * 4 + length (banksBytes m)
       unfolding withChannels withBanks
-      both-length = length-plug (withChannels l (withBanks m c)) h
+      both-length = length-codeplug (withChannels l (withBanks m c)) h
 
       -- after the length only the channels can refuse
-      both-result : Every (BankGood (length l)) m → fileRule (plugBytes (withChannels l (withBanks m c)))
-          ≡ unless (leb (length (plugBytes (withChannels l (withBanks m c)))) 1_048_576) 1 0
+      both-result : Every (BankValid (length l)) m → fileRule (codeplugBytes (withChannels l (withBanks m c)))
+          ≡ unless (leb (length (codeplugBytes (withChannels l (withBanks m c)))) 1_048_576) 1 0
           then eachOf (channelIn (c .contacts)) 90 (channelsStart c) l
       unfolding withChannels withBanks _then_
       both-result g =
-          file-judged (withChannels l (withBanks m c)) h
+          file-validated (withChannels l (withBanks m c)) h
           ∙ rw (
             a .preamble,
             contacts-pass 88 (c .contacts) (a .contacts),
             banksOk-passes (length l) _ m g,
-            then-of-good (eachOf (channelIn (c .contacts)) 90 (channelsStart c) l),
+            then-of-valid (eachOf (channelIn (c .contacts)) 90 (channelsStart c) l),
           )
 
-      both-result-short : Every (BankGood (length l)) m
-          → length (plugBytes (withChannels l (withBanks m c))) ≤ length (plugBytes c)
-          → fileRule (plugBytes (withChannels l (withBanks m c))) ≡ eachOf (channelIn (c .contacts)) 90 (channelsStart c) l
+      both-result-short : Every (BankValid (length l)) m
+          → length (codeplugBytes (withChannels l (withBanks m c))) ≤ length (codeplugBytes c)
+          → fileRule (codeplugBytes (withChannels l (withBanks m c))) ≡ eachOf (channelIn (c .contacts)) 90 (channelsStart c) l
       unfolding _then_
       both-result-short g s =
           both-result g
-          ∙ rw (unless-passes (leb (length (plugBytes (withChannels l (withBanks m c)))) 1_048_576) 1 0
-          (le-leb (length (plugBytes (withChannels l (withBanks m c)))) 1_048_576 (omega (arith, a .short))))
+          ∙ rw (unless-passes (leb (length (codeplugBytes (withChannels l (withBanks m c)))) 1_048_576) 1 0
+          (le-leb (length (codeplugBytes (withChannels l (withBanks m c)))) 1_048_576 (omega (arith, a .short))))
 
   -- the new channel, where it stands
   new-channel : (i : ℕ) (r : List ℕ)
       → channelIn (c .contacts) r (channelsStart c + i * 90)
-      ≡ channelRule r (channelPlace (plugBytes c) i) (indexOk (plugBytes c) r)
+      ≡ channelRule r (channelPlace (codeplugBytes c) i) (indexOk (codeplugBytes c) r)
   unfolding channelIn
   new-channel i r = rw (channel-place c (a .shaped) i, index-ok c (a .shaped) r)
 
@@ -158,18 +158,18 @@ module _ (c : Plug) (a : Accepted c) where
         (every-replace (λ s. length s ≡ 90) i r l w (h .channels)) (every-replace AllBytes i r l b (h .channelsBytes)) (h .banksFit)
         (h .banks) (h .offsetsFit)
 
-    pub replace-channel-is : fileRule (plugBytes (withChannels (replaceAt i r (c .channels)) c))
-        ≡ channelRule r (channelPlace (plugBytes c) i) (indexOk (plugBytes c) r)
+    pub replace-channel-is : fileRule (codeplugBytes (withChannels (replaceAt i r (c .channels)) c))
+        ≡ channelRule r (channelPlace (codeplugBytes c) i) (indexOk (codeplugBytes c) r)
     unfolding withBanks
     replace-channel-is =
         let l = c .channels in
         let m = c .banks in
         let h = shaped-replace-channel in
-        let z : length (plugBytes (withChannels (replaceAt i r l) c)) ≤ length (plugBytes c) =
-        omega (arith, both-length (replaceAt i r l) m h, length-plug c (a .shaped), length-replace i r l g)
+        let z : length (codeplugBytes (withChannels (replaceAt i r l) c)) ≤ length (codeplugBytes c) =
+        omega (arith, both-length (replaceAt i r l) m h, length-codeplug c (a .shaped), length-replace i r l g)
         in
         both-result-short (replaceAt i r l) m h (rw (length-replace i r l g) (a .banks)) z
-        ∙ replace-record (channelIn (c .contacts)) 90 (ChannelGood (c .contacts)) (channels-pass (c .contacts)) (channelsStart c) i r l g
+        ∙ replace-record (channelIn (c .contacts)) 90 (ChannelValid (c .contacts)) (channels-pass (c .contacts)) (channelsStart c) i r l g
         (a .channels)
         ∙ new-channel i r
 
@@ -183,15 +183,15 @@ module _ (c : Plug) (a : Accepted c) where
       raised-shaped : Every BankShaped (map (moveEntries (raised i)) (c .banks))
       raised-shaped =
           let n = length (c .channels) in
-          every-map (λ x. BankShaped x × BankGood n x) BankShaped (moveEntries (raised i)) (c .banks)
+          every-map (λ x. BankShaped x × BankValid n x) BankShaped (moveEntries (raised i)) (c .banks)
           (λ x p. moved-shaped (raised i) (suc n) (λ x. x < n) raised-below (omega arith) x (p .0) (p .1 .below))
-          (every-both BankShaped (BankGood n) (c .banks) (a .shaped .banks) (a .banks))
+          (every-both BankShaped (BankValid n) (c .banks) (a .shaped .banks) (a .banks))
 
-      raised-good : Every (BankGood (suc (length (c .channels)))) (map (moveEntries (raised i)) (c .banks))
-      raised-good =
+      raised-valid : Every (BankValid (suc (length (c .channels)))) (map (moveEntries (raised i)) (c .banks))
+      raised-valid =
           let n = length (c .channels) in
-          every-map (BankGood n) (BankGood (suc n)) (moveEntries (raised i)) (c .banks)
-          (λ x p. moved-good (raised i) (suc n) (λ x. x < n) raised-below n x p (p .below))
+          every-map (BankValid n) (BankValid (suc n)) (moveEntries (raised i)) (c .banks)
+          (λ x p. moved-valid (raised i) (suc n) (λ x. x < n) raised-below n x p (p .below))
           (a .banks)
 
       pub shaped-insert-channel : Shaped (withChannels (insertAt i r (c .channels)) (moveChannels (raised i) c))
@@ -204,27 +204,27 @@ module _ (c : Plug) (a : Accepted c) where
           (every-insert AllBytes i r l b (h .channelsBytes)) (rw (length-map (c .banks) (moveEntries (raised i))) (h .banksFit)) raised-shaped
           (rw (moved-length (raised i) (c .banks) (h .banks)) (h .offsetsFit))
 
-      pub insert-channel-is : fileRule (plugBytes (withChannels (insertAt i r (c .channels)) (moveChannels (raised i) c)))
-          ≡ mayGrow 90 (plugBytes c) then channelRule r (channelPlace (plugBytes c) i) (indexOk (plugBytes c) r)
+      pub insert-channel-is : fileRule (codeplugBytes (withChannels (insertAt i r (c .channels)) (moveChannels (raised i) c)))
+          ≡ mayGrow 90 (codeplugBytes c) then channelRule r (channelPlace (codeplugBytes c) i) (indexOk (codeplugBytes c) r)
       unfolding moveChannels mayGrow
       insert-channel-is =
           let l = c .channels in
           let m = map (moveEntries (raised i)) (c .banks) in
           let h = shaped-insert-channel in
-          let z : length (plugBytes (withChannels (insertAt i r l) (withBanks m c))) ≡ length (plugBytes c) + 90 =
+          let z : length (codeplugBytes (withChannels (insertAt i r l) (withBanks m c))) ≡ length (codeplugBytes c) + 90 =
           omega (
             arith,
             both-length (insertAt i r l) m h,
-            length-plug c (a .shaped),
+            length-codeplug c (a .shaped),
             length-insert i r l g,
             length-map (c .banks) (moveEntries (raised i)),
             moved-length (raised i) (c .banks) (a .shaped .banks),
           )
           in
-          both-result (insertAt i r l) m h (rw (length-insert i r l g) raised-good)
+          both-result (insertAt i r l) m h (rw (length-insert i r l g) raised-valid)
           ∙ rw (
             z,
-            insert-record (channelIn (c .contacts)) 90 (ChannelGood (c .contacts)) (channels-pass (c .contacts)) (channelsStart c) i r l g
+            insert-record (channelIn (c .contacts)) 90 (ChannelValid (c .contacts)) (channels-pass (c .contacts)) (channelsStart c) i r l g
                 (a .channels),
             new-channel i r,
           )
@@ -239,9 +239,9 @@ module _ (c : Plug) (a : Accepted c) where
     others : Every (λ b. Every Other (b .entries)) (c .banks)
     others =
         let n = length (c .channels) in
-        every-so (λ b. BankGood n b × Every (λ x. x ≡ i → ⊥) (b .entries)) (λ b. Every Other (b .entries)) (c .banks)
+        every-so (λ b. BankValid n b × Every (λ x. x ≡ i → ⊥) (b .entries)) (λ b. Every Other (b .entries)) (c .banks)
         (λ b p. every-both (λ x. x < n) (λ x. x ≡ i → ⊥) (b .entries) (p .0 .below) (p .1))
-        (every-both (BankGood n) (λ b. Every (λ x. x ≡ i → ⊥) (b .entries)) (c .banks) (a .banks) (none-holds i (c .banks) u))
+        (every-both (BankValid n) (λ b. Every (λ x. x ≡ i → ⊥) (b .entries)) (c .banks) (a .banks) (none-holds i (c .banks) u))
 
     lowered-in : (x : ℕ) → Other x → lowered i x < length (removeAt i (c .channels))
     lowered-in x p =
@@ -258,13 +258,13 @@ module _ (c : Plug) (a : Accepted c) where
         (λ x p. moved-shaped (lowered i) n Other lowered-in (omega arith) x (p .0) (p .1))
         (every-both BankShaped (λ b. Every Other (b .entries)) (c .banks) (a .shaped .banks) others)
 
-    lowered-good : Every (BankGood (length (removeAt i (c .channels)))) (map (moveEntries (lowered i)) (c .banks))
-    lowered-good =
+    lowered-valid : Every (BankValid (length (removeAt i (c .channels)))) (map (moveEntries (lowered i)) (c .banks))
+    lowered-valid =
         let n = length (c .channels) in
         let k = length (removeAt i (c .channels)) in
-        every-map (λ x. BankGood n x × Every Other (x .entries)) (BankGood k) (moveEntries (lowered i)) (c .banks)
-        (λ x p. moved-good (lowered i) k Other lowered-in n x (p .0) (p .1))
-        (every-both (BankGood n) (λ b. Every Other (b .entries)) (c .banks) (a .banks) others)
+        every-map (λ x. BankValid n x × Every Other (x .entries)) (BankValid k) (moveEntries (lowered i)) (c .banks)
+        (λ x p. moved-valid (lowered i) k Other lowered-in n x (p .0) (p .1))
+        (every-both (BankValid n) (λ b. Every Other (b .entries)) (c .banks) (a .banks) others)
 
     pub shaped-remove-channel : Shaped (withChannels (removeAt i (c .channels)) (moveChannels (lowered i) c))
     unfolding moveChannels
@@ -276,21 +276,21 @@ module _ (c : Plug) (a : Accepted c) where
         (every-remove AllBytes i l (h .channelsBytes)) (rw (length-map (c .banks) (moveEntries (lowered i))) (h .banksFit)) lowered-shaped
         (rw (moved-length (lowered i) (c .banks) (h .banks)) (h .offsetsFit))
 
-    pub remove-channel-is : fileRule (plugBytes (withChannels (removeAt i (c .channels)) (moveChannels (lowered i) c))) ≡ Good
+    pub remove-channel-is : fileRule (codeplugBytes (withChannels (removeAt i (c .channels)) (moveChannels (lowered i) c))) ≡ Valid
     unfolding moveChannels
     remove-channel-is =
         let l = c .channels in
         let m = map (moveEntries (lowered i)) (c .banks) in
         let h = shaped-remove-channel in
-        let z : length (plugBytes (withChannels (removeAt i l) (withBanks m c))) ≤ length (plugBytes c) =
+        let z : length (codeplugBytes (withChannels (removeAt i l) (withBanks m c))) ≤ length (codeplugBytes c) =
         omega (
           arith,
           both-length (removeAt i l) m h,
-          length-plug c (a .shaped),
+          length-codeplug c (a .shaped),
           length-remove i l g,
           length-map (c .banks) (moveEntries (lowered i)),
           moved-length (lowered i) (c .banks) (a .shaped .banks),
         )
         in
-        both-result-short (removeAt i l) m h lowered-good z
-        ∙ channels-pass (c .contacts) (channelsStart c) (removeAt i l) (every-remove (ChannelGood (c .contacts)) i l (a .channels))
+        both-result-short (removeAt i l) m h lowered-valid z
+        ∙ channels-pass (c .contacts) (channelsStart c) (removeAt i l) (every-remove (ChannelValid (c .contacts)) i l (a .channels))

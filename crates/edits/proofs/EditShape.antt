@@ -10,15 +10,15 @@ use lib.Dec.{leb, ltb, eqb}
 use borrow.Author.Tests.{leb-true, ltb-true, eqb-false, not-true}
 use Rattle.fields.proofs.Laws.{AllBytes}
 use Rattle.bits.proofs.Laws.{and-left, and-right}
-use Rattle.plug.specs.Plug.{Plug}
-use Rattle.plug.specs.declared.Kind.{Kind}
-use Rattle.plug.specs.declared.Kind.the-variants.{InsertContact, RemoveContact, ReplaceContact, InsertChannel, RemoveChannel, ReplaceChannel, InsertBank, RemoveBank, RenameBank, InsertEntry, RemoveEntry, SetHeader}
-use Rattle.plug.specs.Kinds.{recordLength}
-use Rattle.plug.specs.Edits.{edited}
-use Rattle.plug.specs.EditRules.{placeOk, countOk, inUse, entriesIn}
-use Rattle.plug.proofs.Shape.{BankShaped, Shaped}
-use Rattle.plug.proofs.Blocks.{every-getD}
-use Rattle.edits.proofs.Accepted.{Accepted}
+use Rattle.model.specs.Codeplug.{Codeplug}
+use Rattle.model.specs.declared.Kind.{Kind}
+use Rattle.model.specs.declared.Kind.the-variants.{InsertContact, RemoveContact, ReplaceContact, InsertChannel, RemoveChannel, ReplaceChannel, InsertBank, RemoveBank, RenameBank, InsertEntry, RemoveEntry, SetHeader}
+use Rattle.model.specs.Kinds.{recordLength}
+use Rattle.model.specs.Edits.{edited}
+use Rattle.model.specs.EditRules.{placeOk, countOk, inUse, entriesIn}
+use Rattle.model.proofs.Shape.{BankShaped, Shaped}
+use Rattle.model.proofs.Blocks.{every-getD}
+use Rattle.edits.proofs.AcceptedCodeplug.{AcceptedCodeplug}
 use Rattle.edits.proofs.HeaderEdit.{shaped-preamble}
 use Rattle.edits.proofs.BankEdits.{noBank, shaped-remove-bank}
 use Rattle.edits.proofs.BankKinds.{entries-in, shaped-insert, shaped-rename, shaped-insert-entry, shaped-remove-entry}
@@ -39,14 +39,14 @@ may-grow n h g =
     let d : n ≡ 65535 → ⊥ = eqb-false n 65535 (not-true (eqb n 65535) g) in
     omega arith
 
-pub entries-fit : (c : Plug) → Accepted c → (i : ℕ) → i < length (c .banks) → entriesIn i (c .banks) < 65536
+pub entries-fit : (c : Codeplug) → AcceptedCodeplug c → (i : ℕ) → i < length (c .banks) → entriesIn i (c .banks) < 65536
 entries-fit c a i g =
     let s = every-getD BankShaped (c .banks) i noBank (a .shaped .banks) g in
     omega (arith, entries-in i (c .banks), s .fits)
 
 -- ---- the shape of the codeplug after an edit
 
-pub edited-shaped : (k : Kind) (i j : ℕ) (r : List ℕ) (c : Plug) → Accepted c → AllBytes r → length r ≡ recordLength k
+pub edited-shaped : (k : Kind) (i j : ℕ) (r : List ℕ) (c : Codeplug) → AcceptedCodeplug c → AllBytes r → length r ≡ recordLength k
     → placeOk k i j c ≡ true → countOk k i c ≡ true → inUse k i c ≡ false → Shaped (edited k i j r c)
 unfolding edited
 edited-shaped InsertContact i j r c a b w p n u =

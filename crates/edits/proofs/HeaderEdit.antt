@@ -1,4 +1,4 @@
--- Edit 12: of the result only the two texts of the new title can refuse.
+-- Edit 12: of the result only the two texts of the new header can refuse.
 use Prim.Native.Nat.{ℕ, _+_, _≤_}
 use mathlib.Core.Path.{_≡_, refl, sym, _∙_}
 use mathlib.Core.Bool.{true}
@@ -12,15 +12,15 @@ use borrow.Author.Tests.{le-leb}
 use Rattle.fields.specs.Bytes.{part, num}
 use Rattle.text.specs.Text.{textOk}
 use Rattle.fields.specs.Rule.{_then_, unless}
-use Rattle.fields.specs.declared.rule.Verdict.the-variants.{Good}
-use Rattle.fields.proofs.Laws.{part-left, part-right, part-part, then-good, then-of-good, unless-passes, field-good, field-inside, field-passes, AllBytes, bytes-append, bytes-take}
+use Rattle.fields.specs.declared.rule.Validity.the-variants.{Valid}
+use Rattle.fields.proofs.Laws.{part-left, part-right, part-part, then-valid, then-of-valid, unless-passes, field-valid, field-inside, field-passes, AllBytes, bytes-append, bytes-take}
 use Rattle.layout.specs.Header.{identityRule}
 use Rattle.file_rule.specs.File.{fileRule}
-use Rattle.plug.specs.Plug.{Plug, plugBytes}
-use Rattle.plug.specs.Edits.{withPreamble}
-use Rattle.plug.proofs.Shape.{Shaped, length-plug}
-use Rattle.edits.proofs.Accepted.{Accepted, file-judged, contacts-pass, channels-pass}
-use Rattle.plug.proofs.Judged.{banksOk-passes}
+use Rattle.model.specs.Codeplug.{Codeplug, codeplugBytes}
+use Rattle.model.specs.Edits.{withPreamble}
+use Rattle.model.proofs.Shape.{Shaped, length-codeplug}
+use Rattle.edits.proofs.AcceptedCodeplug.{AcceptedCodeplug, file-validated, contacts-pass, channels-pass}
+use Rattle.model.proofs.Validated.{banksOk-passes}
 
 -- the first ten bytes are kept
 abbrev newPreamble : List ℕ → List ℕ → List ℕ
@@ -44,14 +44,14 @@ module _ (t r : List ℕ) (h : length t ≡ 82) (g : length r ≡ 72) where
       let d : j ≡ length (take 10 t) + k = omega (arith, kept-length) in
       rw d (part-right (take 10 t) r k n)
 
-  pub preamble-judged : identityRule t ≡ Good
+  pub preamble-validated : identityRule t ≡ Valid
       → identityRule (newPreamble t r) ≡ unless (textOk (part r 0 32)) 5 10 then unless (textOk (part r 32 32)) 5 42
   unfolding identityRule _then_
-  preamble-judged e =
-      let a = then-good _ _ e in
-      let b = then-good _ _ (a .1) in
-      let magic : eqb (num t 0 8) 0x43585452 ≡ true = field-good _ _ _ _ _ _ (a .0) .1 in
-      let version : eqb (num t 8 2) 1 ≡ true = field-good _ _ _ _ _ _ (b .0) .1 in
+  preamble-validated e =
+      let a = then-valid _ _ e in
+      let b = then-valid _ _ (a .1) in
+      let magic : eqb (num t 0 8) 0x43585452 ≡ true = field-valid _ _ _ _ _ _ (a .0) .1 in
+      let version : eqb (num t 8 2) 1 ≡ true = field-valid _ _ _ _ _ _ (b .0) .1 in
       let l = preamble-length in
       rw (
         kept 0 8 (omega arith),
@@ -64,7 +64,7 @@ module _ (t r : List ℕ) (h : length t ≡ 82) (g : length r ≡ 72) where
         field-inside (length (newPreamble t r)) 0 42 32 5 (textOk (part r 32 32)) (omega arith),
       )
 
-module _ (c : Plug) (a : Accepted c) (r : List ℕ) (g : length r ≡ 72) (b : AllBytes r) where
+module _ (c : Codeplug) (a : AcceptedCodeplug c) (r : List ℕ) (g : length r ≡ 72) (b : AllBytes r) where
   pub shaped-preamble : Shaped (withPreamble (newPreamble (c .preamble) r) c)
   unfolding withPreamble
   shaped-preamble =
@@ -83,21 +83,21 @@ module _ (c : Plug) (a : Accepted c) (r : List ℕ) (g : length r ≡ 72) (b : A
         offsetsFit = h .offsetsFit;
       }
 
-  same-length : length (plugBytes (withPreamble (newPreamble (c .preamble) r) c)) ≡ length (plugBytes c)
+  same-length : length (codeplugBytes (withPreamble (newPreamble (c .preamble) r) c)) ≡ length (codeplugBytes c)
   unfolding withPreamble
-  same-length = length-plug (withPreamble (newPreamble (c .preamble) r) c) shaped-preamble ∙ sym (length-plug c (a .shaped))
+  same-length = length-codeplug (withPreamble (newPreamble (c .preamble) r) c) shaped-preamble ∙ sym (length-codeplug c (a .shaped))
 
-  pub set-header-judged : fileRule (plugBytes (withPreamble (newPreamble (c .preamble) r) c))
+  pub set-header-validated : fileRule (codeplugBytes (withPreamble (newPreamble (c .preamble) r) c))
       ≡ unless (textOk (part r 0 32)) 5 10 then unless (textOk (part r 32 32)) 5 42
   unfolding withPreamble _then_
-  set-header-judged =
-      file-judged (withPreamble (newPreamble (c .preamble) r) c) shaped-preamble
+  set-header-validated =
+      file-validated (withPreamble (newPreamble (c .preamble) r) c) shaped-preamble
       ∙ rw (
         same-length,
-        unless-passes (leb (length (plugBytes c)) 1_048_576) 1 0 (le-leb (length (plugBytes c)) 1_048_576 (a .short)),
+        unless-passes (leb (length (codeplugBytes c)) 1_048_576) 1 0 (le-leb (length (codeplugBytes c)) 1_048_576 (a .short)),
         contacts-pass 88 (c .contacts) (a .contacts),
         channels-pass (c .contacts) _ (c .channels) (a .channels),
         banksOk-passes (length (c .channels)) _ (c .banks) (a .banks),
-        then-of-good (identityRule (newPreamble (c .preamble) r)),
+        then-of-valid (identityRule (newPreamble (c .preamble) r)),
       )
-      (preamble-judged (c .preamble) r (a .shaped .preamble) g (a .preamble))
+      (preamble-validated (c .preamble) r (a .shaped .preamble) g (a .preamble))

@@ -1,5 +1,5 @@
 -- The theory of the twelve edits: reading a result, and demand 3.
-pub mod Accepted
+pub mod AcceptedCodeplug
 pub mod ListEdits
 pub mod Moves
 pub mod HeaderEdit

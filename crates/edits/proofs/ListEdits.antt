@@ -4,8 +4,8 @@ use mathlib.Core.Path.{_≡_, refl, ap}
 use mathlib.Core.List.{List, [], _∷_}
 use native.Mathlib.Omega.{arith}
 use lib.ListN.{length, take, drop, getD}
-use Rattle.plug.specs.Edits.{insertAt, removeAt, replaceAt, changeAt}
-use Rattle.plug.proofs.Blocks.{Every, every-append, every-take, every-drop}
+use Rattle.model.specs.Edits.{insertAt, removeAt, replaceAt, changeAt}
+use Rattle.model.proofs.Blocks.{Every, every-append, every-take, every-drop}
 
 module _ {A : Type 0} where
   -- ---- lengths

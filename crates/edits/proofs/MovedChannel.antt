@@ -1,4 +1,4 @@
--- A channel whose contact index moves along with the contacts is as good as before, and names the same contact. And a good channel
+-- A channel whose contact index moves along with the contacts stays valid, and names the same contact. And a valid channel
 -- whose contact index names no contact is refused at its index, and nowhere else.
 use Prim.Native.Nat.{ℕ, _+_, _≤_, _<_}
 use mathlib.Core.Path.{_≡_, refl, ap, sym, _∙_}
@@ -12,17 +12,17 @@ use lib.Dec.{leb, ltb, eqb}
 use borrow.Author.Tests.{eqb-true, ne-eqb, ltb-true, lt-ltb}
 use Rattle.fields.specs.Bytes.{part, num, little, littleBytes, over}
 use Rattle.fields.specs.Rule.{_then_, unless, fieldOf}
-use Rattle.fields.specs.declared.rule.Verdict.the-variants.{Good}
+use Rattle.fields.specs.declared.rule.Validity.the-variants.{Valid}
 use Rattle.fields.proofs.Laws.{part-left, part-part, length-over, part-over, drop-over, length-littleBytes, little-littleBytes, bytes-littleBytes}
-use Rattle.fields.proofs.Laws.{bytes-over, AllBytes, then-good, then-of-good, unless-passes, field-inside}
-use Rattle.bits.specs.Packed.{halvesOf}
+use Rattle.fields.proofs.Laws.{bytes-over, AllBytes, then-valid, then-of-valid, unless-passes, field-inside}
+use Rattle.bits.specs.Packed.{nibblesOf}
 use Rattle.bits.proofs.Laws.{and-left, and-right}
 use Rattle.channel.specs.Values.{contactIndexPlace, contactIndexOf, slotOk, operationOk, encryptionOk}
 use Rattle.channel.specs.Rule.{headRule, textsRule, locationRule, dmrRule, m17Rule, infoRule, channelRule, namedContact}
 use Rattle.channel.specs.declared.ContactIndex.the-variants.{Index}
-use Rattle.channel.proofs.Laws.{GoodChannel, GoodDmr, GoodM17, by-mode, info-dmr, info-m17, channel-good}
-use Rattle.plug.specs.Edits.{withIndexAt, moveContact}
-use Rattle.edits.proofs.Accepted.{namesIn, ChannelGood, fm-names}
+use Rattle.channel.proofs.Laws.{ValidChannel, ValidDmr, ValidM17, by-mode, info-dmr, info-m17, channel-valid, dmr-named, m17-named}
+use Rattle.model.specs.Edits.{withIndexAt, moveContact}
+use Rattle.edits.proofs.AcceptedCodeplug.{namesIn, ChannelValid, fm-names}
 
 -- ---- two bytes of a channel written over
 
@@ -63,9 +63,9 @@ module _ (s : List ℕ) (k v : ℕ) (w : length s ≡ 90) (hi : k ≤ 88) where
   written-num h =
       ap little (part-over s k (littleBytes 2 v) 2 (omega arith) (length-littleBytes 2 v)) ∙ little-littleBytes 2 v h
 
-  pub written-good : 87 ≤ k → GoodChannel s → (getD s 0 0 ≡ 0 → ⊥) → (getD s 0 0 ≡ 1 → GoodDmr written)
-      → (getD s 0 0 ≡ 2 → GoodM17 written) → GoodChannel written
-  written-good lo g f d m =
+  pub written-valid : 87 ≤ k → ValidChannel s → (getD s 0 0 ≡ 0 → ⊥) → (getD s 0 0 ≡ 1 → ValidDmr written)
+      → (getD s 0 0 ≡ 2 → ValidM17 written) → ValidChannel written
+  written-valid lo g f d m =
       let e : getD written 0 0 ≡ getD s 0 0 = byte-before 0 (omega arith) in
       record {
         mode = rw e (g .mode);
@@ -85,13 +85,13 @@ module _ (s : List ℕ) (k v : ℕ) (w : length s ≡ 90) (hi : k ≤ 88) where
 -- ---- a contact index that moves along
 
 -- what a channel's index x names before and after
-abbrev pub Follows : List (List ℕ) → List (List ℕ) → (ℕ → ℕ) → ℕ → Type 0
-Follows l k move x = (move x < length k) × (getD k (move x) [] ≡ getD l x [])
+abbrev pub SameContact : List (List ℕ) → List (List ℕ) → (ℕ → ℕ) → ℕ → Type 0
+SameContact l k move x = (move x < length k) × (getD k (move x) [] ≡ getD l x [])
 
 module _ (l k : List (List ℕ)) (move : ℕ → ℕ) (none : move 65535 ≡ 65535) (fits : length k ≤ 65535) where
   -- by the index x, whose contact is in the list
   index-moves : (mode x : ℕ) → namesIn l mode (contactIndexOf x) ≡ true
-      → (contactIndexOf x ≡ Index x → x < length l → Follows l k move x)
+      → (contactIndexOf x ≡ Index x → x < length l → SameContact l k move x)
       → (move x < 65536) × (namesIn k mode (contactIndexOf (move x)) ≡ true)
   unfolding contactIndexOf namesIn
   index-moves mode x h f = by (eqb x 65535) refl
@@ -110,65 +110,67 @@ module _ (l k : List (List ℕ)) (move : ℕ → ℕ) (none : move 65535 ≡ 655
           let same : eqb (getD (getD l x []) 32 0) mode ≡ true = and-right (ltb x (length l)) (eqb (getD (getD l x []) 32 0) mode) g in
           (omega arith, rw (ne-eqb (move x) 65535 (λ q. omega arith), lt-ltb (move x) (length k) z, y .1) same)
 
-  module _ (s : List ℕ) (h : ChannelGood l s) (w : length s ≡ 90)
-      (f : (x : ℕ) → namedContact s ≡ Index x → x < length l → Follows l k move x) where
-    fm-moves : getD s 0 0 ≡ 0 → ChannelGood k (moveContact move s)
+  module _ (s : List ℕ) (h : ChannelValid l s) (w : length s ≡ 90)
+      (f : (x : ℕ) → namedContact s ≡ Index x → x < length l → SameContact l k move x) where
+    fm-moves : getD s 0 0 ≡ 0 → ChannelValid k (moveContact move s)
     unfolding moveContact
     fm-moves e =
-        let g : ChannelGood k s = record { good = h .good; whole = h .whole; names = fm-names k s e } in
+        let g : ChannelValid k s = record { valid = h .valid; whole = h .whole; names = fm-names k s e } in
         rw e g
 
-    dmr-moves : getD s 0 0 ≡ 1 → ChannelGood k (moveContact move s)
-    unfolding moveContact withIndexAt namedContact
+    dmr-moves : getD s 0 0 ≡ 1 → ChannelValid k (moveContact move s)
+    unfolding moveContact withIndexAt
     dmr-moves e =
         let x = num s 87 2 in
-        let d : namedContact s ≡ contactIndexOf x = rw e in
+        let d : namedContact s ≡ contactIndexOf x = dmr-named s e (omega arith) in
         let i = index-moves 1 x (rw (d, e) at (h .names)) (λ q. f x (d ∙ q)) in
         let t = over s 87 (littleBytes 2 (move x)) in
+        let wide : length t ≡ 90 = written-length s 87 (move x) w (omega arith) in
         let mode : getD t 0 0 ≡ 1 = byte-before s 87 (move x) w (omega arith) 0 (omega arith) ∙ e in
-        let g : GoodChannel t =
-        written-good s 87 (move x) w (omega arith) (omega arith) (h .good) (λ z. omega arith)
+        let g : ValidChannel t =
+        written-valid s 87 (move x) w (omega arith) (omega arith) (h .valid) (λ z. omega arith)
         (λ z. record {
-          slot = rw (byte-before s 87 (move x) w (omega arith) 86 (omega arith)) (h .good .dmr e .slot);
-          pad = byte-behind s 87 (move x) w (omega arith) ∙ h .good .dmr e .pad;
+          slot = rw (byte-before s 87 (move x) w (omega arith) 86 (omega arith)) (h .valid .dmr e .slot);
+          pad = byte-behind s 87 (move x) w (omega arith) ∙ h .valid .dmr e .pad;
         })
         (λ z. absurd (omega arith))
         in
         let names : namesIn k (getD t 0 0) (namedContact t) ≡ true =
-        rw (mode, written-num s 87 (move x) w (omega arith) (i .0)) (i .1)
+        rw (mode, dmr-named t mode (omega arith), written-num s 87 (move x) w (omega arith) (i .0)) (i .1)
         in
-        let all : ChannelGood k t = record { good = g; whole = omega (arith, written-length s 87 (move x) w (omega arith)); names = names } in
+        let all : ChannelValid k t = record { valid = g; whole = omega arith; names = names } in
         rw e all
 
-    m17-moves : getD s 0 0 ≡ 2 → ChannelGood k (moveContact move s)
-    unfolding moveContact withIndexAt namedContact
+    m17-moves : getD s 0 0 ≡ 2 → ChannelValid k (moveContact move s)
+    unfolding moveContact withIndexAt
     m17-moves e =
         let x = num s 88 2 in
-        let d : namedContact s ≡ contactIndexOf x = rw e in
+        let d : namedContact s ≡ contactIndexOf x = m17-named s e (omega arith) in
         let i = index-moves 2 x (rw (d, e) at (h .names)) (λ q. f x (d ∙ q)) in
         let t = over s 88 (littleBytes 2 (move x)) in
+        let wide : length t ≡ 90 = written-length s 88 (move x) w (omega arith) in
         let mode : getD t 0 0 ≡ 2 = byte-before s 88 (move x) w (omega arith) 0 (omega arith) ∙ e in
-        let g : GoodChannel t =
-        written-good s 88 (move x) w (omega arith) (omega arith) (h .good) (λ z. omega arith)
+        let g : ValidChannel t =
+        written-valid s 88 (move x) w (omega arith) (omega arith) (h .valid) (λ z. omega arith)
         (λ z. absurd (omega arith))
         (λ z. record {
-          operation = rw (byte-before s 88 (move x) w (omega arith) 86 (omega arith)) (h .good .m17 e .operation);
-          encryption = rw (byte-before s 88 (move x) w (omega arith) 86 (omega arith)) (h .good .m17 e .encryption);
-          position = rw (byte-before s 88 (move x) w (omega arith) 87 (omega arith)) (h .good .m17 e .position);
+          operation = rw (byte-before s 88 (move x) w (omega arith) 86 (omega arith)) (h .valid .m17 e .operation);
+          encryption = rw (byte-before s 88 (move x) w (omega arith) 86 (omega arith)) (h .valid .m17 e .encryption);
+          position = rw (byte-before s 88 (move x) w (omega arith) 87 (omega arith)) (h .valid .m17 e .position);
         })
         in
         let names : namesIn k (getD t 0 0) (namedContact t) ≡ true =
-        rw (mode, written-num s 88 (move x) w (omega arith) (i .0)) (i .1)
+        rw (mode, m17-named t mode (omega arith), written-num s 88 (move x) w (omega arith) (i .0)) (i .1)
         in
-        let all : ChannelGood k t = record { good = g; whole = omega (arith, written-length s 88 (move x) w (omega arith)); names = names } in
+        let all : ChannelValid k t = record { valid = g; whole = omega arith; names = names } in
         rw e all
 
-    pub channel-moves : ChannelGood k (moveContact move s)
+    pub channel-moves : ChannelValid k (moveContact move s)
     channel-moves =
-        by-mode (ChannelGood k (moveContact move s)) (getD s 0 0)
+        by-mode (ChannelValid k (moveContact move s)) (getD s 0 0)
         (λ e. fm-moves e)
         (λ e. dmr-moves e)
-        (λ e. m17-moves (omega (arith, h .good .mode)))
+        (λ e. m17-moves (omega (arith, h .valid .mode)))
 
 -- ---- its length and its bytes
 
@@ -190,39 +192,39 @@ moved-bytes move s h = by (eqb (getD s 0 0) 1) (eqb (getD s 0 0) 2)
     by false true = bytes-over s 88 (littleBytes 2 (move (num s 88 2))) h (bytes-littleBytes 2 (move (num s 88 2)))
     by false false = h
 
--- ---- a good channel whose index names no contact
+-- ---- a valid channel whose index names no contact
 
-module _ (s : List ℕ) (p : ℕ) (g : GoodChannel s) (l : 90 ≤ length s) where
+module _ (s : List ℕ) (p : ℕ) (g : ValidChannel s) (l : 90 ≤ length s) where
   -- up to the info nothing refuses
   up-to-info : (named : Bool) → channelRule s p named ≡ infoRule s p named
   unfolding channelRule _then_
   up-to-info named =
-      let a = then-good (headRule s p) _ (channel-good s p true g l refl) in
-      let b = then-good (textsRule s p) _ (a .1) in
-      let d = then-good (locationRule s p) _ (b .1) in
+      let a = then-valid (headRule s p) _ (channel-valid s p true g l refl) in
+      let b = then-valid (textsRule s p) _ (a .1) in
+      let d = then-valid (locationRule s p) _ (b .1) in
       rw (a .0, b .0, d .0)
 
-  info-passes : infoRule s p true ≡ Good
-  info-passes = sym (up-to-info true) ∙ channel-good s p true g l refl
+  info-passes : infoRule s p true ≡ Valid
+  info-passes = sym (up-to-info true) ∙ channel-valid s p true g l refl
 
   dmr-unless : (named : Bool) → getD s 0 0 ≡ 1 → infoRule s p named ≡ unless named 9 (p + 87)
   unfolding dmrRule _then_
   dmr-unless named e =
-      let a = then-good (fieldOf (length s) p 85 1 7 true) _ (sym (info-dmr s p true e) ∙ info-passes) in
-      let b = then-good (fieldOf (length s) p 86 1 7 (slotOk (getD s 86 0))) _ (a .1) in
-      let d = then-good (fieldOf (length s) p 87 2 9 true) _ (b .1) in
+      let a = then-valid (fieldOf (length s) p 85 1 7 true) _ (sym (info-dmr s p true e) ∙ info-passes) in
+      let b = then-valid (fieldOf (length s) p 86 1 7 (slotOk (getD s 86 0))) _ (a .1) in
+      let d = then-valid (fieldOf (length s) p 87 2 9 true) _ (b .1) in
       info-dmr s p named e
-      ∙ rw (a .0, b .0, d .1, field-inside (length s) p 87 2 9 named (omega arith)) (then-of-good (unless named 9 (p + 87)))
+      ∙ rw (a .0, b .0, d .1, field-inside (length s) p 87 2 9 named (omega arith)) (then-of-valid (unless named 9 (p + 87)))
 
   m17-unless : (named : Bool) → 2 ≤ getD s 0 0 → infoRule s p named ≡ unless named 9 (p + 88)
   unfolding m17Rule _then_
   m17-unless named e =
-      let a = then-good (fieldOf (length s) p 85 1 7 true) _ (sym (info-m17 s p true e) ∙ info-passes) in
+      let a = then-valid (fieldOf (length s) p 85 1 7 true) _ (sym (info-m17 s p true e) ∙ info-passes) in
       let b =
-      then-good (fieldOf (length s) p 86 1 7 (operationOk (halvesOf (getD s 86 0) .high) && encryptionOk (halvesOf (getD s 86 0) .low))) _
+      then-valid (fieldOf (length s) p 86 1 7 (operationOk (nibblesOf (getD s 86 0) .high) && encryptionOk (nibblesOf (getD s 86 0) .low))) _
       (a .1)
       in
-      let d = then-good (fieldOf (length s) p 87 1 7 (leb (getD s 87 0) 1)) _ (b .1) in
+      let d = then-valid (fieldOf (length s) p 87 1 7 (leb (getD s 87 0) 1)) _ (b .1) in
       info-m17 s p named e
       ∙ rw (a .0, b .0, d .0) (field-inside (length s) p 88 2 9 named (omega arith))
 

@@ -6,10 +6,10 @@ use mathlib.Core.List.{List, [], _∷_}
 use native.Mathlib.Omega.{arith}
 use lib.Dec.{leb, ltb, eqb}
 use borrow.Author.Tests.{lt-ltb, le-ltb, le-leb, lt-leb, ne-eqb, eqb-false, eqb-true, ltb-true, ltb-false}
-use Rattle.plug.specs.Plug.{Bank}
-use Rattle.plug.specs.Edits.{raised, lowered}
-use Rattle.plug.specs.EditRules.{holdsChannel, someHolds}
-use Rattle.plug.proofs.Blocks.{Every}
+use Rattle.model.specs.Codeplug.{Bank}
+use Rattle.model.specs.Edits.{raised, lowered}
+use Rattle.model.specs.EditRules.{holdsChannel, someHolds}
+use Rattle.model.proofs.Blocks.{Every}
 
 -- ---- raised
 

@@ -8,55 +8,55 @@ use mathlib.Core.List.{List, _++_}
 use native.Mathlib.Omega.{arith}
 use lib.ListN.{length}
 use borrow.Author.Tests.{leb-true, eqb-true, not-true}
-use Rattle.fields.proofs.Laws.{AllBytes, then-good, unless-good}
-use Rattle.fields.specs.declared.rule.Verdict.the-variants.{Good, Refused}
+use Rattle.fields.proofs.Laws.{AllBytes, then-valid, unless-valid}
+use Rattle.fields.specs.declared.rule.Validity.the-variants.{Valid, Refused}
 use Rattle.file_rule.specs.File.{fileRule}
-use Rattle.file_rule.proofs.Laws.{file-good}
-use Rattle.journal.specs.Setting.{Call, edit, undo}
+use Rattle.file_rule.proofs.Laws.{file-valid}
+use Rattle.journal.specs.EditSystem.{Call, edit, undo}
 use Rattle.journal.specs.Machine.{State, fileOf, historyOf, buffersRule, step, next}
 use Rattle.journal.specs.Book.{Book, fileAfter, anyKept, withoutLast}
 use Rattle.journal.specs.Promise.{EveryEdit}
-use Rattle.journal.proofs.Promise.{Laws, promise, stateAfter, bookAfter, entries-after, stands-after, edit-refusals, undo-refusals, undo-refused, undo-takes-back}
+use Rattle.journal.proofs.Promise.{EditSystemLaws, promise, stateAfter, bookAfter, entries-after, stands-after, edit-refusals, undo-refusals, undo-refused, undo-takes-back}
 use Rattle.journal.proofs.StepLaws.{newestFirst}
 use Rattle.journal.specs.Entry.{entrySize, whole}
 use Rattle.journal.specs.Change.{entryOf}
 use Rattle.journal.specs.declared.answer.Answer.the-variants as answer
-use Rattle.plug.specs.declared.KindRead.{KindRead}
-use Rattle.plug.specs.declared.KindRead.the-variants.{Known, NoKind}
-use Rattle.plug.specs.Kinds.{kindOf}
-use Rattle.plug.specs.Plug.{plugOf, plugBytes}
-use Rattle.plug.proofs.FileOf.{file-of-plug}
-use Rattle.edits.proofs.Accepted.{laid}
-use Rattle.edits.specs.Setting.{Asked, refusesKnown, refusesKind, refuses, appliedKind, applied, editing}
+use Rattle.model.specs.declared.KindRead.{KindRead}
+use Rattle.model.specs.declared.KindRead.the-variants.{Known, NoKind}
+use Rattle.model.specs.Kinds.{kindOf}
+use Rattle.model.specs.Codeplug.{codeplugOf, codeplugBytes}
+use Rattle.model.proofs.FileOf.{file-of-codeplug}
+use Rattle.edits.proofs.AcceptedCodeplug.{has-layout}
+use Rattle.edits.specs.Editing.{EditRequest, refusesKnown, refusesKind, refuses, appliedKind, applied, editing}
 use Rattle.edits.specs.Demand.{OfBytes, Demand3}
 use Rattle.edits.proofs.ResultLaws.{result-bytes}
 
 -- an edit that is not refused gives an accepted file of bytes that fits the room
-kind-good : (t : KindRead) (a : Asked) (room : ℕ) (f : List ℕ) → AllBytes f → fileRule f ≡ Good → AllBytes (a .bytes)
-    → refusesKind t a room f ≡ Good
-    → (fileRule (appliedKind t a f) ≡ Good) × ((length (appliedKind t a f) ≤ room) × AllBytes (appliedKind t a f))
+kind-valid : (t : KindRead) (a : EditRequest) (room : ℕ) (f : List ℕ) → AllBytes f → fileRule f ≡ Valid → AllBytes (a .bytes)
+    → refusesKind t a room f ≡ Valid
+    → (fileRule (appliedKind t a f) ≡ Valid) × ((length (appliedKind t a f) ≤ room) × AllBytes (appliedKind t a f))
 unfolding refusesKnown refusesKind appliedKind
-kind-good NoKind a room f bytes good p h = let z : _≡_ {A = ℕ} 0 1 = cc in absurd (omega arith)
-kind-good (Known k) a room f bytes good p h =
-    let wide = then-good _ _ h in
-    let place = then-good _ _ (wide .1) in
-    let count = then-good _ _ (place .1) in
-    let free = then-good _ _ (count .1) in
-    let read = then-good _ _ (free .1) in (
+kind-valid NoKind a room f bytes valid p h = let z : _≡_ {A = ℕ} 0 1 = cc in absurd (omega arith)
+kind-valid (Known k) a room f bytes valid p h =
+    let wide = then-valid _ _ h in
+    let place = then-valid _ _ (wide .1) in
+    let count = then-valid _ _ (place .1) in
+    let free = then-valid _ _ (count .1) in
+    let read = then-valid _ _ (free .1) in (
       read .0,
       (
-        leb-true _ _ (unless-good _ _ _ (read .1)),
-        result-bytes k (a .first) (a .second) (a .bytes) f bytes p good (eqb-true _ _ (unless-good _ _ _ (wide .0))) (unless-good _ _ _ (place .0))
-            (unless-good _ _ _ (count .0)) (not-true _ (unless-good _ _ _ (free .0))),
+        leb-true _ _ (unless-valid _ _ _ (read .1)),
+        result-bytes k (a .first) (a .second) (a .bytes) f bytes p valid (eqb-true _ _ (unless-valid _ _ _ (wide .0))) (unless-valid _ _ _ (place .0))
+            (unless-valid _ _ _ (count .0)) (not-true _ (unless-valid _ _ _ (free .0))),
       ),
     )
 
-pub editing-laws : Laws editing OfBytes
+pub editing-laws : EditSystemLaws editing OfBytes
 unfolding refuses applied
 editing-laws =
     record {
-      result-good = λ a room f bytes good p h. kind-good (kindOf (a .kind)) a room f bytes good p h;
-      short = λ f h. file-good f h .short;
+      result-valid = λ a room f bytes valid p h. kind-valid (kindOf (a .kind)) a room f bytes valid p h;
+      short = λ f h. file-valid f h .short;
     }
 
 -- ---- the promise
@@ -65,11 +65,11 @@ editing-laws =
 -- ones included: each answer is the book's, and the room holds the book's file. It says that the two calls keep faith with the book; that
 -- an edit yields the file its rule describes is what the calls' contracts and `applied` say, which both sides share.
 pub editor-promise : Demand3
-editor-promise f spare history good bytes calls proper = promise editing OfBytes editing-laws f spare history good bytes calls proper
+editor-promise f spare history valid bytes calls proper = promise editing OfBytes editing-laws f spare history valid bytes calls proper
 
 -- ---- what follows, after any list of calls
 
-module _ (f spare history : List ℕ) (good : fileRule f ≡ Good) (bytes : AllBytes f) (calls : List (Call editing)) (proper : EveryEdit editing OfBytes calls) where
+module _ (f spare history : List ℕ) (valid : fileRule f ≡ Valid) (bytes : AllBytes f) (calls : List (Call editing)) (proper : EveryEdit editing OfBytes calls) where
   abbrev now : State
   now = stateAfter editing f spare history calls
 
@@ -77,32 +77,32 @@ module _ (f spare history : List ℕ) (good : fileRule f ≡ Good) (bytes : AllB
   booked = bookAfter editing f spare history calls
 
   -- 30, the file's own refusal and 31 do not arise
-  pub editor-stands : buffersRule editing now ≡ Good
-  editor-stands = stands-after editing OfBytes editing-laws f spare history good bytes calls proper
+  pub editor-preconditions : buffersRule editing now ≡ Valid
+  editor-preconditions = stands-after editing OfBytes editing-laws f spare history valid bytes calls proper
 
   -- the history's bytes are exactly the kept entries, newest first
   pub editor-entries : historyOf now ≡ whole (newestFirst editing booked)
-  editor-entries = entries-after editing OfBytes editing-laws f spare history good bytes calls proper
+  editor-entries = entries-after editing OfBytes editing-laws f spare history valid bytes calls proper
 
   -- an edit is refused by its own refusals of the file, and then by 37 at 0 where its entry alone exceeds the history buffer: no other
-  pub editor-edit-refusals : (a : Asked) → OfBytes a → (n p : ℕ) → step editing (edit a) now .answer ≡ answer.Refused n p
+  pub editor-edit-refusals : (a : EditRequest) → OfBytes a → (n p : ℕ) → step editing (edit a) now .answer ≡ answer.Refused n p
       → (refuses a (length (f ++ spare)) (fileOf now) ≡ Refused n p)
       ⊎ (((n ≡ 37) × (p ≡ 0)) × (length history < entrySize (entryOf (fileOf now) (applied a (fileOf now)))))
-  editor-edit-refusals = edit-refusals editing OfBytes editing-laws f spare history good bytes calls proper
+  editor-edit-refusals = edit-refusals editing OfBytes editing-laws f spare history valid bytes calls proper
 
   -- an undo is refused exactly where no standing edit's entry is kept, by 38 at 0; 39 does not arise
   pub editor-undo-refusals : (n p : ℕ) → step editing undo now .answer ≡ answer.Refused n p
       → ((n ≡ 38) × (p ≡ 0)) × (anyKept editing (booked .standing) ≡ false)
-  editor-undo-refusals = undo-refusals editing OfBytes editing-laws f spare history good bytes calls proper
+  editor-undo-refusals = undo-refusals editing OfBytes editing-laws f spare history valid bytes calls proper
 
   pub editor-undo-refused : anyKept editing (booked .standing) ≡ false → step editing undo now .answer ≡ answer.Refused 38 0
-  editor-undo-refused = undo-refused editing OfBytes editing-laws f spare history good bytes calls proper
+  editor-undo-refused = undo-refused editing OfBytes editing-laws f spare history valid bytes calls proper
 
   -- an undo that is accepted takes back the last standing edit
   pub editor-undo-takes-back : (len used n : ℕ) → step editing undo now .answer ≡ answer.Done len used n
       → fileOf (next editing undo now) ≡ fileAfter editing f (withoutLast editing (booked .standing))
-  editor-undo-takes-back = undo-takes-back editing OfBytes editing-laws f spare history good bytes calls proper
+  editor-undo-takes-back = undo-takes-back editing OfBytes editing-laws f spare history valid bytes calls proper
 
 -- what an edit does not change stays byte for byte: an accepted file is the file of its own records
-pub records-are-the-file : (f : List ℕ) → fileRule f ≡ Good → AllBytes f → plugBytes (plugOf f) ≡ f
-records-are-the-file f good bytes = file-of-plug f (laid f good bytes)
+pub records-are-the-file : (f : List ℕ) → fileRule f ≡ Valid → AllBytes f → codeplugBytes (codeplugOf f) ≡ f
+records-are-the-file f valid bytes = file-of-codeplug f (has-layout f valid bytes)

@@ -1,12 +1,12 @@
 -- Demand 3 for codeplugs; proofs/Promised.antt proves it (`editor-promise`). That the code is the machine it speaks of is what the contracts
 -- of the calls say: `edit` equals `editStep editing`, `undo` equals `undoStep editing` (editor and undo, src/lib.rt). What an edit
--- does and refuses is the same definition for the machine and the book, as document 01 asks: Edits.antt and EditRules.antt of plug, Setting.antt here.
+-- does and refuses is the same definition for the machine and the book, as document 01 asks: Edits.antt and EditRules.antt of model, Editing.antt here.
 use Rattle.fields.specs.Bytes.{AllBytes}
 use Rattle.journal.specs.Promise.{EveryList}
-use Rattle.edits.specs.Setting.{Asked, editing}
+use Rattle.edits.specs.Editing.{EditRequest, editing}
 
 -- an edit whose record is bytes, which is every one that code can pass
-abbrev pub OfBytes : Asked → Type 0
+abbrev pub OfBytes : EditRequest → Type 0
 OfBytes a = AllBytes (a .bytes)
 
 abbrev pub Demand3 : Type 0

@@ -34,8 +34,9 @@ pub fn walker<'a>(entries: &'a [u8]) -> BankWalker<'a>
     BankWalker { entries, at: 0 }
 }
 
-// The entry at the walker's place.
-pub fn next<'a>(w: BankWalker<'a>) -> EntryStep
+// The entry at the walker's place. The walker stays there, as a value cannot be changed by a call: `moved` takes it to the place that the step
+// answered.
+pub fn peek<'a>(w: BankWalker<'a>) -> EntryStep
     ensures { λ r. ⌜ r ≡ entryStep (now (w .entry .entries)) (w .entry .at) ⌝ }
 {
     entry(w.entries, w.at)
@@ -55,5 +56,5 @@ pub fn moved<'a>(w: BankWalker<'a>, at: usize) -> BankWalker<'a>
 pub fn walked(entries: &[u8], i: usize) -> EntryStep
     ensures { λ r. ⌜ r ≡ entryStep (now (entries .entry)) i ⌝ }
 {
-    next(moved(walker(entries), i))
+    peek(moved(walker(entries), i))
 }

@@ -17,9 +17,9 @@ use lib.Dec.{leb}
 use borrow.Author.Tests.{le-leb, lt-leb, leb-true}
 use Rattle.fields.specs.Bytes.{part, zeros, over, little, littleBytes, bigFrom, big, bigBytes, num}
 pub use Rattle.fields.specs.Bytes.{AllBytes}
-use Rattle.fields.specs.Rule.{_then_, isGood, unless, fieldOf, each, written}
-use Rattle.fields.specs.declared.rule.Verdict.{Verdict}
-use Rattle.fields.specs.declared.rule.Verdict.the-variants.{Good, Refused}
+use Rattle.fields.specs.Rule.{_then_, isValid, unless, fieldOf, each, written}
+use Rattle.fields.specs.declared.rule.Validity.{Validity}
+use Rattle.fields.specs.declared.rule.Validity.the-variants.{Valid, Refused}
 
 -- ---- parts
 
@@ -259,39 +259,39 @@ copied-all a s k n i e h g =
 
 -- ---- the first bad field answers
 
-pub then-good : (a b : Verdict) → a then b ≡ Good → (a ≡ Good) × (b ≡ Good)
+pub then-valid : (a b : Validity) → a then b ≡ Valid → (a ≡ Valid) × (b ≡ Valid)
 unfolding _then_
-then-good Good b h = (refl, h)
-then-good (Refused n p) b h = let z : _≡_ {A = ℕ} 0 1 = cc in absurd (omega arith)
+then-valid Valid b h = (refl, h)
+then-valid (Refused n p) b h = let z : _≡_ {A = ℕ} 0 1 = cc in absurd (omega arith)
 
-pub good-then : (a b : Verdict) → a ≡ Good → a then b ≡ b
+pub valid-then : (a b : Validity) → a ≡ Valid → a then b ≡ b
 unfolding _then_
-good-then a b h = rw h
+valid-then a b h = rw h
 
-pub both-good : (a b : Verdict) → a ≡ Good → b ≡ Good → a then b ≡ Good
+pub both-valid : (a b : Validity) → a ≡ Valid → b ≡ Valid → a then b ≡ Valid
 unfolding _then_
-both-good a b g h = rw (g, h)
+both-valid a b g h = rw (g, h)
 
-pub then-refused : (a b : Verdict) (n p : ℕ) → a ≡ Refused n p → a then b ≡ Refused n p
+pub then-refused : (a b : Validity) (n p : ℕ) → a ≡ Refused n p → a then b ≡ Refused n p
 unfolding _then_
 then-refused a b n p h = rw h
 
-pub then-assoc : (a b c : Verdict) → (a then b) then c ≡ a then (b then c)
+pub then-assoc : (a b c : Validity) → (a then b) then c ≡ a then (b then c)
 unfolding _then_
-then-assoc Good b c = refl
+then-assoc Valid b c = refl
 then-assoc (Refused n p) b c = refl
 
-pub then-of-good : (v : Verdict) → v then Good ≡ v
+pub then-of-valid : (v : Validity) → v then Valid ≡ v
 unfolding _then_
-then-of-good Good = refl
-then-of-good (Refused n p) = refl
+then-of-valid Valid = refl
+then-of-valid (Refused n p) = refl
 
-pub unless-good : (ok : Bool) (number place : ℕ) → unless ok number place ≡ Good → ok ≡ true
+pub unless-valid : (ok : Bool) (number place : ℕ) → unless ok number place ≡ Valid → ok ≡ true
 unfolding unless
-unless-good true number place h = refl
-unless-good false number place h = let z : _≡_ {A = ℕ} 0 1 = cc in absurd (omega arith)
+unless-valid true number place h = refl
+unless-valid false number place h = let z : _≡_ {A = ℕ} 0 1 = cc in absurd (omega arith)
 
-pub unless-passes : (ok : Bool) (number place : ℕ) → ok ≡ true → unless ok number place ≡ Good
+pub unless-passes : (ok : Bool) (number place : ℕ) → ok ≡ true → unless ok number place ≡ Valid
 unfolding unless
 unless-passes ok number place h = rw h
 
@@ -304,44 +304,44 @@ pub field-cut : (left base k n number : ℕ) (ok : Bool) → left < k + n → fi
 unfolding fieldOf
 field-cut left base k n number ok h = rw (lt-leb (k + n) left h)
 
-pub field-passes : (left base k n number : ℕ) (ok : Bool) → k + n ≤ left → ok ≡ true → fieldOf left base k n number ok ≡ Good
+pub field-passes : (left base k n number : ℕ) (ok : Bool) → k + n ≤ left → ok ≡ true → fieldOf left base k n number ok ≡ Valid
 field-passes left base k n number ok h g = field-inside left base k n number ok h ∙ unless-passes ok number (base + k) g
 
-pub field-good : (left base k n number : ℕ) (ok : Bool) → fieldOf left base k n number ok ≡ Good → (k + n ≤ left) × (ok ≡ true)
+pub field-valid : (left base k n number : ℕ) (ok : Bool) → fieldOf left base k n number ok ≡ Valid → (k + n ≤ left) × (ok ≡ true)
 unfolding fieldOf
-field-good left base k n number ok h = by (leb (k + n) left) refl h
+field-valid left base k n number ok h = by (leb (k + n) left) refl h
   where
-    by : (t : Bool) → leb (k + n) left ≡ t → cond t (unless ok number (base + k)) (Refused 2 (base + k)) ≡ Good
+    by : (t : Bool) → leb (k + n) left ≡ t → cond t (unless ok number (base + k)) (Refused 2 (base + k)) ≡ Valid
         → (k + n ≤ left) × (ok ≡ true)
-    by true e g = (leb-true (k + n) left e, unless-good ok number (base + k) g)
+    by true e g = (leb-true (k + n) left e, unless-valid ok number (base + k) g)
     by false e g = let z : _≡_ {A = ℕ} 0 1 = cc in absurd (omega arith)
 
 -- ---- whether nothing is refused, number and place left out
 
-pub good-told : (v : Verdict) → isGood v ≡ true → v ≡ Good
-unfolding isGood
-good-told Good h = refl
-good-told (Refused n p) h = let z : _≡_ {A = ℕ} 0 1 = cc in absurd (omega arith)
+pub valid-by-test : (v : Validity) → isValid v ≡ true → v ≡ Valid
+unfolding isValid
+valid-by-test Valid h = refl
+valid-by-test (Refused n p) h = let z : _≡_ {A = ℕ} 0 1 = cc in absurd (omega arith)
 
-pub good-both : (a b : Verdict) → isGood (a then b) ≡ isGood a && isGood b
-unfolding isGood _then_
-good-both Good b = refl
-good-both (Refused n p) b = refl
+pub valid-both : (a b : Validity) → isValid (a then b) ≡ isValid a && isValid b
+unfolding isValid _then_
+valid-both Valid b = refl
+valid-both (Refused n p) b = refl
 
-pub good-unless : (ok : Bool) (number place : ℕ) → isGood (unless ok number place) ≡ ok
-unfolding isGood unless
-good-unless true number place = refl
-good-unless false number place = refl
+pub valid-unless : (ok : Bool) (number place : ℕ) → isValid (unless ok number place) ≡ ok
+unfolding isValid unless
+valid-unless true number place = refl
+valid-unless false number place = refl
 
-pub good-cond : (t : Bool) (a b : Verdict) → isGood (cond t a b) ≡ cond t (isGood a) (isGood b)
-good-cond true a b = refl
-good-cond false a b = refl
+pub valid-cond : (t : Bool) (a b : Validity) → isValid (cond t a b) ≡ cond t (isValid a) (isValid b)
+valid-cond true a b = refl
+valid-cond false a b = refl
 
-pub good-field : (left base k n number : ℕ) (ok : Bool) → isGood (fieldOf left base k n number ok) ≡ leb (k + n) left && ok
-unfolding fieldOf isGood
-good-field left base k n number ok =
-    good-cond (leb (k + n) left) (unless ok number (base + k)) (Refused 2 (base + k))
-    ∙ rw (good-unless ok number (base + k)) (at (leb (k + n) left))
+pub valid-field : (left base k n number : ℕ) (ok : Bool) → isValid (fieldOf left base k n number ok) ≡ leb (k + n) left && ok
+unfolding fieldOf isValid
+valid-field left base k n number ok =
+    valid-cond (leb (k + n) left) (unless ok number (base + k)) (Refused 2 (base + k))
+    ∙ rw (valid-unless ok number (base + k)) (at (leb (k + n) left))
   where
     at : (t : Bool) → cond t ok false ≡ t && ok
     at true = refl
@@ -349,35 +349,35 @@ good-field left base k n number ok =
 
 -- ---- runs of records
 
-pub each-suc : (rule : ℕ → Verdict) (n w p : ℕ) → each rule (suc n) w p ≡ rule p then each rule n w (p + w)
+pub each-suc : (rule : ℕ → Validity) (n w p : ℕ) → each rule (suc n) w p ≡ rule p then each rule n w (p + w)
 unfolding each
 each-suc rule n w p = refl
 
-pub each-none : (rule : ℕ → Verdict) (w p : ℕ) → Good ≡ each rule 0 w p
+pub each-none : (rule : ℕ → Validity) (w p : ℕ) → Valid ≡ each rule 0 w p
 unfolding each
 each-none rule w p = refl
 
-pub each-good : (rule : ℕ → Verdict) (n w p : ℕ) → each rule n w p ≡ Good → (i : ℕ) → i < n → rule (p + i * w) ≡ Good
+pub each-valid : (rule : ℕ → Validity) (n w p : ℕ) → each rule n w p ≡ Valid → (i : ℕ) → i < n → rule (p + i * w) ≡ Valid
 unfolding each
-each-good rule zero w p h i g = absurd (omega arith)
-each-good rule (suc n) w p h zero g =
+each-valid rule zero w p h i g = absurd (omega arith)
+each-valid rule (suc n) w p h zero g =
     let e : p + 0 * w ≡ p = omega arith in
-    ap rule e ∙ then-good (rule p) (each rule n w (p + w)) h .0
-each-good rule (suc n) w p h (suc i) g =
+    ap rule e ∙ then-valid (rule p) (each rule n w (p + w)) h .0
+each-valid rule (suc n) w p h (suc i) g =
     let e : p + suc i * w ≡ p + w + i * w = omega arith in
-    ap rule e ∙ each-good rule n w (p + w) (then-good (rule p) (each rule n w (p + w)) h .1) i (omega arith)
+    ap rule e ∙ each-valid rule n w (p + w) (then-valid (rule p) (each rule n w (p + w)) h .1) i (omega arith)
 
-pub each-passes : (rule : ℕ → Verdict) (n w p : ℕ) → ((i : ℕ) → i < n → rule (p + i * w) ≡ Good) → each rule n w p ≡ Good
+pub each-passes : (rule : ℕ → Validity) (n w p : ℕ) → ((i : ℕ) → i < n → rule (p + i * w) ≡ Valid) → each rule n w p ≡ Valid
 unfolding each
 each-passes rule zero w p h = refl
 each-passes rule (suc n) w p h =
     let e : p ≡ p + 0 * w = omega arith in
-    both-good (rule p) (each rule n w (p + w)) (ap rule e ∙ h 0 (omega arith))
+    both-valid (rule p) (each rule n w (p + w)) (ap rule e ∙ h 0 (omega arith))
     (each-passes rule n w (p + w)
     (λ i g. let f : p + w + i * w ≡ p + suc i * w = omega arith in ap rule f ∙ h (suc i) (omega arith)))
 
 -- the first i records, and then the rest
-pub each-split : (rule : ℕ → Verdict) (i m w p : ℕ)
+pub each-split : (rule : ℕ → Validity) (i m w p : ℕ)
     → each rule (i + m) w p ≡ each rule i w p then each rule m w (p + i * w)
 unfolding each _then_
 each-split rule zero m w p =
@@ -388,68 +388,63 @@ each-split rule (suc i) m w p =
     rw (suc-add, e, each-split rule i m w (p + w))
     (sym (then-assoc (rule p) (each rule i w (p + w)) (each rule m w (p + w + i * w))))
 
-pub each-last : (rule : ℕ → Verdict) (n w p : ℕ) → each rule (n + 1) w p ≡ each rule n w p then rule (p + n * w)
+pub each-last : (rule : ℕ → Validity) (n w p : ℕ) → each rule (n + 1) w p ≡ each rule n w p then rule (p + n * w)
 unfolding each
-each-last rule n w p = each-split rule n 1 w p ∙ rw (then-of-good (rule (p + n * w)))
+each-last rule n w p = each-split rule n 1 w p ∙ rw (then-of-valid (rule (p + n * w)))
 
--- a turn of a loop that joins the verdicts: v so far, a of the record at q, u of both
-pub each-turn : (rule : ℕ → Verdict) (i w p q : ℕ) (v a u : Verdict) → v ≡ each rule i w p → q ≡ p + i * w → a ≡ rule q
-    → u ≡ v then a → u ≡ each rule (i + 1) w p
-each-turn rule i w p q v a u ev eq ea eu = eu ∙ rw (ev, ea, eq) (sym (each-last rule i w p))
-
-pub each-end : (rule : ℕ → Verdict) (n i w p : ℕ) (v : Verdict) → v ≡ each rule i w p → i ≤ n → n ≤ i → v ≡ each rule n w p
+pub each-end : (rule : ℕ → Validity) (n i w p : ℕ) (v : Validity) → v ≡ each rule i w p → i ≤ n → n ≤ i → v ≡ each rule n w p
 each-end rule n i w p v e g h =
     let f : i ≡ n = omega arith in
     e ∙ rw f
 
--- a turn of a loop over n records, at the i-th, which stands at p
-pub each-step : (rule : ℕ → Verdict) (n i w p : ℕ) → i < n → each rule (n - i) w p ≡ rule p then each rule (n - (i + 1)) w (p + w)
+-- an iteration of a loop over n records, at the i-th, which stands at p
+pub each-step : (rule : ℕ → Validity) (n i w p : ℕ) → i < n → each rule (n - i) w p ≡ rule p then each rule (n - (i + 1)) w (p + w)
 each-step rule n i w p h =
     let e : n - i ≡ suc (n - (i + 1)) = omega arith in
     rw (e, each-suc rule (n - (i + 1)) w p)
 
 -- a loop that returns the first refusal, at the i-th of n records, which stands at p: what is left from there on answers for all, and
--- v is the verdict of the record at p
-pub each-next : (rule : ℕ → Verdict) (n i w p : ℕ) (all v : Verdict) → i < n → all ≡ each rule (n - i) w p → v ≡ rule p → v ≡ Good
+-- v is the validity of the record at p
+pub each-next : (rule : ℕ → Validity) (n i w p : ℕ) (all v : Validity) → i < n → all ≡ each rule (n - i) w p → v ≡ rule p → v ≡ Valid
     → all ≡ each rule (n - (i + 1)) w (p + w)
 each-next rule n i w p all v h e f g =
-    e ∙ each-step rule n i w p h ∙ good-then (rule p) (each rule (n - (i + 1)) w (p + w)) (sym f ∙ g)
+    e ∙ each-step rule n i w p h ∙ valid-then (rule p) (each rule (n - (i + 1)) w (p + w)) (sym f ∙ g)
 
-pub each-bad : (rule : ℕ → Verdict) (n i w p : ℕ) (all v : Verdict) (a b : ℕ) → i < n → all ≡ each rule (n - i) w p → v ≡ rule p
+pub each-bad : (rule : ℕ → Validity) (n i w p : ℕ) (all v : Validity) (a b : ℕ) → i < n → all ≡ each rule (n - i) w p → v ≡ rule p
     → v ≡ Refused a b → v ≡ all
 each-bad rule n i w p all v a b h e f g =
     g ∙ sym (e ∙ each-step rule n i w p h ∙ then-refused (rule p) (each rule (n - (i + 1)) w (p + w)) a b (sym f ∙ g))
 
-pub each-done : (rule : ℕ → Verdict) (n i w p : ℕ) (all : Verdict) → n ≤ i → all ≡ each rule (n - i) w p → Good ≡ all
+pub each-done : (rule : ℕ → Validity) (n i w p : ℕ) (all : Validity) → n ≤ i → all ≡ each rule (n - i) w p → Valid ≡ all
 each-done rule n i w p all h e =
     let z : n - i ≡ 0 = omega arith in
     each-none rule w p ∙ sym (e ∙ rw z)
 
--- a turn of a loop that asks whether the i-th record, at q, is good too
-pub good-turn : (rule : ℕ → Verdict) (i w p q : ℕ) (ok more : Bool) → ok ≡ isGood (each rule i w p) → q ≡ p + i * w
-    → more ≡ isGood (rule q) → ok && more ≡ isGood (each rule (i + 1) w p)
-good-turn rule i w p q ok more e f g =
-    rw (e, g, f) (sym (ap isGood (each-last rule i w p) ∙ good-both (each rule i w p) (rule (p + i * w))))
+-- an iteration of a loop that asks whether the i-th record, at q, is valid too
+pub valid-step : (rule : ℕ → Validity) (i w p q : ℕ) (ok more : Bool) → ok ≡ isValid (each rule i w p) → q ≡ p + i * w
+    → more ≡ isValid (rule q) → ok && more ≡ isValid (each rule (i + 1) w p)
+valid-step rule i w p q ok more e f g =
+    rw (e, g, f) (sym (ap isValid (each-last rule i w p) ∙ valid-both (each rule i w p) (rule (p + i * w))))
 
 -- and its end
-pub good-end : (rule : ℕ → Verdict) (n i w p : ℕ) (ok : Bool) → ok ≡ isGood (each rule i w p) → i ≤ n → n ≤ i → ok ≡ true
-    → each rule n w p ≡ Good
-good-end rule n i w p ok e g h t =
-    sym (each-end rule n i w p (each rule i w p) refl g h) ∙ good-told (each rule i w p) (sym e ∙ t)
+pub valid-end : (rule : ℕ → Validity) (n i w p : ℕ) (ok : Bool) → ok ≡ isValid (each rule i w p) → i ≤ n → n ≤ i → ok ≡ true
+    → each rule n w p ≡ Valid
+valid-end rule n i w p ok e g h t =
+    sym (each-end rule n i w p (each rule i w p) refl g h) ∙ valid-by-test (each rule i w p) (sym e ∙ t)
 
 -- the first bad record answers
-pub each-stop : (rule : ℕ → Verdict) (n w p i a b : ℕ) → i < n → ((j : ℕ) → j < i → rule (p + j * w) ≡ Good)
+pub each-stop : (rule : ℕ → Validity) (n w p i a b : ℕ) → i < n → ((j : ℕ) → j < i → rule (p + j * w) ≡ Valid)
     → rule (p + i * w) ≡ Refused a b → each rule n w p ≡ Refused a b
 each-stop rule n w p i a b h g e =
     let f : n ≡ i + (n - i) = omega arith in
     ap (λ (m : ℕ). each rule m w p) f
     ∙ each-split rule i (n - i) w p
-    ∙ good-then (each rule i w p) (each rule (n - i) w (p + i * w)) (each-passes rule i w p g)
+    ∙ valid-then (each rule i w p) (each rule (n - i) w (p + i * w)) (each-passes rule i w p g)
     ∙ each-step rule n i w (p + i * w) h
     ∙ then-refused (rule (p + i * w)) (each rule (n - (i + 1)) w (p + i * w + w)) a b e
 
 -- rules that agree at each record
-pub each-same : (f g : ℕ → Verdict) (n w p : ℕ) → ((i : ℕ) → i < n → f (p + i * w) ≡ g (p + i * w)) → each f n w p ≡ each g n w p
+pub each-same : (f g : ℕ → Validity) (n w p : ℕ) → ((i : ℕ) → i < n → f (p + i * w) ≡ g (p + i * w)) → each f n w p ≡ each g n w p
 unfolding each
 each-same f g zero w p h = refl
 each-same f g (suc n) w p h =
@@ -463,17 +458,17 @@ each-same f g (suc n) w p h =
 
 -- ---- what a writer leaves
 
-pub written-good : (v : Verdict) (out s : List ℕ) → v ≡ Good → written v out s ≡ over out 0 s
+pub written-valid : (v : Validity) (out s : List ℕ) → v ≡ Valid → written v out s ≡ over out 0 s
 unfolding written
-written-good v out s h = rw h
+written-valid v out s h = rw h
 
-pub written-refused : (v : Verdict) (out s : List ℕ) (n p : ℕ) → v ≡ Refused n p → written v out s ≡ out
+pub written-refused : (v : Validity) (out s : List ℕ) (n p : ℕ) → v ≡ Refused n p → written v out s ≡ out
 unfolding written
 written-refused v out s n p h = rw h
 
-pub length-written : (v : Verdict) (out s : List ℕ) → length s ≤ length out → length (written v out s) ≡ length out
+pub length-written : (v : Validity) (out s : List ℕ) → length s ≤ length out → length (written v out s) ≡ length out
 unfolding written
-length-written Good out s h = length-over out 0 s (omega arith)
+length-written Valid out s h = length-over out 0 s (omega arith)
 length-written (Refused n p) out s h = refl
 
 -- ---- bytes
@@ -731,8 +726,8 @@ pub num-two : (s : List ℕ) (k a b : ℕ) → a ≡ getD s k 0 → b ≡ getD s
 num-two s k a b e f = rw (e, f, num-suc s k 1, add-one, num-one s (suc k))
 
 -- the low m bytes and the n above them
-pub num-halves : (s : List ℕ) (k m n a b : ℕ) → a ≡ num s k m → b ≡ num s (k + m) n → a + 256 ^ m * b ≡ num s k (m + n)
-num-halves s k m n a b e f = rw (e, f, num-add s k m n)
+pub num-parts : (s : List ℕ) (k m n a b : ℕ) → a ≡ num s k m → b ≡ num s (k + m) n → a + 256 ^ m * b ≡ num s k (m + n)
+num-parts s k m n a b e f = rw (e, f, num-add s k m n)
 
 -- six bytes, high byte first
 six-bytes : (s : List ℕ) (k : ℕ) → k + 6 ≤ length s

@@ -5,9 +5,9 @@ ghost use mathlib.Core.Bool.{cond};
 ghost use Prim.Native.Nat.{_+_, _<_, _^_};
 ghost use Rattle.fields.specs.Rule.{_then_, unless, fieldOf};
 
-// A refusal has its number and its place.
-pub enum Verdict {
-    Good,
+// Whether something is valid. A refusal, document 01's word for an error, has its number there and its place.
+pub enum Validity {
+    Valid,
     Refused(u8, usize),
 }
 
@@ -19,34 +19,34 @@ pub fn pick(test: bool, a: bool, b: bool) -> bool
 }
 
 // The first refusal of two.
-pub fn first(a: Verdict, b: Verdict) -> Verdict
+pub fn first(a: Validity, b: Validity) -> Validity
     ensures { λ r. ⌜ r ≡ a then b ⌝ }
 {
     match a {
-        Verdict::Good => b,
-        Verdict::Refused(n, p) => Verdict::Refused(n, p),
+        Validity::Valid => b,
+        Validity::Refused(n, p) => Validity::Refused(n, p),
     }
 }
 
 // A refusal, unless the test holds.
-pub fn unless(ok: bool, number: u8, place: usize) -> Verdict
+pub fn unless(ok: bool, number: u8, place: usize) -> Validity
     ensures { λ r. ⌜ r ≡ unless ok number place ⌝ }
 {
     if ok {
-        Verdict::Good
+        Validity::Valid
     } else {
-        Verdict::Refused(number, place)
+        Validity::Refused(number, place)
     }
 }
 
 // The field of n bytes at k of a record that starts at base and has so many bytes left.
-pub fn field(left: usize, base: usize, k: usize, n: usize, number: u8, ok: bool) -> Verdict
+pub fn field(left: usize, base: usize, k: usize, n: usize, number: u8, ok: bool) -> Validity
     requires { ⌜ (base < 2 ^ 62) × ((k < 2 ^ 32) × (n < 2 ^ 32)) ⌝ }
     ensures { λ r. ⌜ r ≡ fieldOf left base k n number ok ⌝ }
 {
     if k + n <= left {
         unless(ok, number, base + k)
     } else {
-        Verdict::Refused(CUT, base + k)
+        Validity::Refused(CUT, base + k)
     }
 }

@@ -1,18 +1,18 @@
-// The channels of a file, judged: each, and the first bad one.
-mod whole; // whole.rt: whether all channels are good
+// The channels of a file, validated: each, and the first bad one.
+mod whole; // whole.rt: whether all channels are valid
 
-use crate::whole::channel_good;
-use crate::whole::channels_good;
+use crate::whole::channel_valid;
+use crate::whole::channels_valid;
 use channel::ContactIndex;
 use channel::values::named_contact;
 use fields::numbers::byte_at;
-use fields::rule::Verdict;
+use fields::rule::Validity;
 use format::sizes::CHANNEL_SIZE;
 use layout::places::channel_count;
 use layout::places::channel_place;
 use layout::places::contact_count;
 use layout::places::contact_place;
-use layout::places::lend;
+use layout::places::record_bytes;
 ghost use mathlib.Core.Path.{_≡_};
 ghost use Prim.Native.Nat.{_<_, _^_};
 ghost use Rattle.file_rule.specs.File.{namesContact, indexOk, channelAt, channelsRule};
@@ -37,29 +37,29 @@ pub fn index_ok(f: &[u8], s: &[u8]) -> bool
 }
 
 // The channel at p, field by field.
-fn channel_fields(f: &[u8], p: usize) -> Verdict
+fn channel_fields(f: &[u8], p: usize) -> Validity
     requires { ⌜ p < 2 ^ 62 ⌝ }
     ensures { λ r. ⌜ r ≡ channelAt (now (f .entry)) p ⌝ }
 {
-    let s = lend(f, p, CHANNEL_SIZE);
-    channel_validation::judge::judge(s, p, index_ok(f, s))
+    let s = record_bytes(f, p, CHANNEL_SIZE);
+    channel_validation::validate(s, p, index_ok(f, s))
 }
 
-// The channel at p: its fields are looked at one by one only where it is not good.
-pub fn channel_at(f: &[u8], p: usize) -> Verdict
+// The channel at p: its fields are looked at one by one only where it is not valid.
+pub fn channel_at(f: &[u8], p: usize) -> Validity
     requires { ⌜ p < 2 ^ 62 ⌝ }
     ensures { λ r. ⌜ r ≡ channelAt (now (f .entry)) p ⌝ }
 {
     if p + CHANNEL_SIZE <= f.len() {
-        if channel_good(f, p, contact_count(f)) {
-            return Verdict::Good;
+        if channel_valid(f, p, contact_count(f)) {
+            return Validity::Valid;
         }
     }
     channel_fields(f, p)
 }
 
 // The first bad channel.
-fn find_channel(f: &[u8]) -> Verdict
+fn find_channel(f: &[u8]) -> Validity
     ensures { λ r. ⌜ r ≡ channelsRule (now (f .entry)) ⌝ }
 {
     let channels = channel_count(f);
@@ -67,20 +67,20 @@ fn find_channel(f: &[u8]) -> Verdict
     let mut p = channel_place(f, 0);
     while i < channels {
         let v = channel_fields(f, p);
-        if let Verdict::Refused(_, _) = v {
+        if let Validity::Refused(_, _) = v {
             return v;
         }
         i += 1;
         p += CHANNEL_SIZE;
     }
-    Verdict::Good
+    Validity::Valid
 }
 
-pub fn judge_channels(f: &[u8]) -> Verdict
+pub fn validate_channels(f: &[u8]) -> Validity
     ensures { λ r. ⌜ r ≡ channelsRule (now (f .entry)) ⌝ }
 {
-    if channels_good(f) {
-        return Verdict::Good;
+    if channels_valid(f) {
+        return Validity::Valid;
     }
     find_channel(f)
 }

@@ -1,40 +1,40 @@
-// The contacts of a file, judged: each, and the first bad one.
-mod whole; // whole.rt: whether all contacts are good
+// The contacts of a file, validated: each, and the first bad one.
+mod whole; // whole.rt: whether all contacts are valid
 
-use crate::whole::contact_good;
-use crate::whole::contacts_good;
-use fields::rule::Verdict;
+use crate::whole::contact_valid;
+use crate::whole::contacts_valid;
+use fields::rule::Validity;
 use format::sizes::CONTACT_SIZE;
 use format::sizes::HEADER_SIZE;
 use layout::places::contact_count;
-use layout::places::lend;
+use layout::places::record_bytes;
 ghost use mathlib.Core.Path.{_≡_};
 ghost use Prim.Native.Nat.{_<_, _^_};
 ghost use Rattle.file_rule.specs.File.{contactAt, contactsRule};
 
 // The contact at p, field by field.
-fn contact_fields(f: &[u8], p: usize) -> Verdict
+fn contact_fields(f: &[u8], p: usize) -> Validity
     requires { ⌜ p < 2 ^ 62 ⌝ }
     ensures { λ r. ⌜ r ≡ contactAt (now (f .entry)) p ⌝ }
 {
-    contact_validation::judge::judge(lend(f, p, CONTACT_SIZE), p)
+    contact_validation::validate(record_bytes(f, p, CONTACT_SIZE), p)
 }
 
-// The contact at p: its fields are looked at one by one only where it is not good.
-pub fn contact_at(f: &[u8], p: usize) -> Verdict
+// The contact at p: its fields are looked at one by one only where it is not valid.
+pub fn contact_at(f: &[u8], p: usize) -> Validity
     requires { ⌜ p < 2 ^ 62 ⌝ }
     ensures { λ r. ⌜ r ≡ contactAt (now (f .entry)) p ⌝ }
 {
     if p + CONTACT_SIZE <= f.len() {
-        if contact_good(f, p) {
-            return Verdict::Good;
+        if contact_valid(f, p) {
+            return Validity::Valid;
         }
     }
     contact_fields(f, p)
 }
 
 // The first bad contact.
-fn find_contact(f: &[u8]) -> Verdict
+fn find_contact(f: &[u8]) -> Validity
     ensures { λ r. ⌜ r ≡ contactsRule (now (f .entry)) ⌝ }
 {
     let contacts = contact_count(f);
@@ -42,20 +42,20 @@ fn find_contact(f: &[u8]) -> Verdict
     let mut p = HEADER_SIZE;
     while i < contacts {
         let v = contact_fields(f, p);
-        if let Verdict::Refused(_, _) = v {
+        if let Validity::Refused(_, _) = v {
             return v;
         }
         i += 1;
         p += CONTACT_SIZE;
     }
-    Verdict::Good
+    Validity::Valid
 }
 
-pub fn judge_contacts(f: &[u8]) -> Verdict
+pub fn validate_contacts(f: &[u8]) -> Validity
     ensures { λ r. ⌜ r ≡ contactsRule (now (f .entry)) ⌝ }
 {
-    if contacts_good(f) {
-        return Verdict::Good;
+    if contacts_valid(f) {
+        return Validity::Valid;
     }
     find_contact(f)
 }

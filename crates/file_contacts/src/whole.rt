@@ -1,4 +1,4 @@
-// Whether all contacts of a file are good, asked before the first bad one is looked for. Nothing branches on the contacts' bytes.
+// Whether all contacts of a file are valid, asked before the first bad one is looked for. Nothing branches on the contacts' bytes.
 use format::sizes::CONTACT_SIZE;
 use format::sizes::HEADER_SIZE;
 use layout::places::contact_count;
@@ -6,20 +6,20 @@ ghost use mathlib.Core.Path.{_≡_};
 ghost use mathlib.Core.Bool.{true};
 ghost use Prim.Native.Nat.{_+_, _≤_};
 ghost use lib.ListN.{length};
-ghost use Rattle.fields.specs.Rule.{isGood};
-ghost use Rattle.fields.specs.declared.rule.Verdict.the-variants.{Good};
+ghost use Rattle.fields.specs.Rule.{isValid};
+ghost use Rattle.fields.specs.declared.rule.Validity.the-variants.{Valid};
 ghost use Rattle.file_rule.specs.File.{contactAt, contactsRule};
 
-pub(crate) fn contact_good(f: &[u8], p: usize) -> bool
+pub(crate) fn contact_valid(f: &[u8], p: usize) -> bool
     requires { ⌜ p + 39 ≤ length (now f) ⌝ }
-    ensures { λ r. ⌜ r ≡ isGood (contactAt (now (f .entry)) p) ⌝ }
+    ensures { λ r. ⌜ r ≡ isValid (contactAt (now (f .entry)) p) ⌝ }
 {
-    contact_validation::whole::good(&f[p..p + CONTACT_SIZE])
+    contact_validation::whole::is_valid(&f[p..p + CONTACT_SIZE])
 }
 
-// Yes only where every contact is good.
-pub(crate) fn contacts_good(f: &[u8]) -> bool
-    ensures { λ r. ⌜ (r ≡ true → contactsRule (now (f .entry)) ≡ Good) ⌝ }
+// Yes only where every contact is valid.
+pub(crate) fn contacts_valid(f: &[u8]) -> bool
+    ensures { λ r. ⌜ (r ≡ true → contactsRule (now (f .entry)) ≡ Valid) ⌝ }
 {
     let contacts = contact_count(f);
     if f.len() < HEADER_SIZE + contacts * CONTACT_SIZE {
@@ -29,7 +29,7 @@ pub(crate) fn contacts_good(f: &[u8]) -> bool
     let mut i = 0;
     let mut p = HEADER_SIZE;
     while i < contacts {
-        ok = ok & contact_good(f, p);
+        ok = ok & contact_valid(f, p);
         i += 1;
         p += CONTACT_SIZE;
     }

@@ -1,4 +1,4 @@
--- Laws of the judge of the file: the contact that a channel names, and the file's parts one after the other.
+-- Laws of validation of the file: the contact that a channel names, and the file's parts one after the other.
 use Prim.Native.Nat.{ℕ, _+_, _≤_, _<_}
 use mathlib.Core.Path.{_≡_, sym, _∙_}
 use mathlib.Core.List.{List}
@@ -7,9 +7,9 @@ use lib.ListN.{length, getD}
 use lib.Dec.{ltb, eqb}
 use borrow.Author.Tests.{lt-ltb, le-ltb, le-leb, lt-leb}
 use Rattle.fields.specs.Rule.{_then_, unless}
-use Rattle.fields.specs.declared.rule.Verdict.{Verdict}
-use Rattle.fields.specs.declared.rule.Verdict.the-variants.{Good, Refused}
-use Rattle.fields.proofs.Laws.{good-then, then-refused, unless-passes}
+use Rattle.fields.specs.declared.rule.Validity.{Validity}
+use Rattle.fields.specs.declared.rule.Validity.the-variants.{Valid, Refused}
+use Rattle.fields.proofs.Laws.{valid-then, then-refused, unless-passes}
 use Rattle.channel.specs.declared.ContactIndex.the-variants.{Index}
 use Rattle.layout.specs.Places.{contactCount, contactPlace}
 use Rattle.layout.specs.Header.{headerRule}
@@ -31,13 +31,13 @@ names-none f mode i n e h = rw (← e, le-ltb i n h)
 
 -- ---- the file's parts, from each on
 
-abbrev pub fromOffsets : List ℕ → Verdict
+abbrev pub fromOffsets : List ℕ → Validity
 fromOffsets f = offsetsRule f then banksRule f
 
-abbrev pub fromChannels : List ℕ → Verdict
+abbrev pub fromChannels : List ℕ → Validity
 fromChannels f = channelsRule f then fromOffsets f
 
-abbrev pub fromContacts : List ℕ → Verdict
+abbrev pub fromContacts : List ℕ → Validity
 fromContacts f = contactsRule f then fromChannels f
 
 pub file-long : (f : List ℕ) → 1_048_576 < length f → Refused 1 0 ≡ fileRule f
@@ -46,12 +46,12 @@ file-long f h = rw (lt-leb (length f) 1_048_576 h)
 
 pub file-fits : (f : List ℕ) → length f ≤ 1_048_576 → fileRule f ≡ headerRule f then fromContacts f
 unfolding fileRule
-file-fits f h = good-then _ (headerRule f then fromContacts f) (unless-passes _ 1 0 (le-leb (length f) 1_048_576 h))
+file-fits f h = valid-then _ (headerRule f then fromContacts f) (unless-passes _ 1 0 (le-leb (length f) 1_048_576 h))
 
--- the first part of what is left has the verdict v: it is good, and the rest answers for all
-pub goes-on : (all v a rest : Verdict) → all ≡ a then rest → v ≡ a → v ≡ Good → all ≡ rest
-goes-on all v a rest e d g = e ∙ good-then a rest (sym d ∙ g)
+-- the first part of what is left has the validity v: it is valid, and the rest answers for all
+pub goes-on : (all v a rest : Validity) → all ≡ a then rest → v ≡ a → v ≡ Valid → all ≡ rest
+goes-on all v a rest e d g = e ∙ valid-then a rest (sym d ∙ g)
 
 -- or it answers for all
-pub stops : (all v a rest : Verdict) (n p : ℕ) → all ≡ a then rest → v ≡ a → v ≡ Refused n p → v ≡ all
+pub stops : (all v a rest : Validity) (n p : ℕ) → all ≡ a then rest → v ≡ a → v ≡ Refused n p → v ≡ all
 stops all v a rest n p e d g = g ∙ sym (e ∙ then-refused a rest n p (sym d ∙ g))

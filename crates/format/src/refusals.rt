@@ -1,4 +1,4 @@
-// The refusals (document 01, "The refusals, by number"), by the names that include/codeplug.h gives them.
+// The refusals (document 01, "The refusals, by number"), by the names that bindings/c/include/codeplug.h gives them.
 // the file is longer than 1,048,576 bytes
 pub const TOO_LONG: u8 = 1;
 // a field is not wholly inside the file
@@ -50,8 +50,8 @@ pub const IN_USE: u8 = 35;
 // the result does not fit the codeplug's buffer
 pub const NO_ROOM: u8 = 36;
 // the new entry alone does not fit the history's buffer
-pub const NO_HISTORY: u8 = 37;
+pub const HISTORY_TOO_SMALL: u8 = 37;
 // the history is empty
 pub const NO_UNDO: u8 = 38;
 // the top entry does not fit the codeplug
-pub const BAD_ENTRY: u8 = 39;
+pub const HISTORY_ENTRY: u8 = 39;

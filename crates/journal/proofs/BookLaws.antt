@@ -9,14 +9,14 @@ use lib.ListN.{length}
 use lib.Dec.{leb}
 use borrow.Author.Tests.{leb-true, leb-false}
 use Rattle.fields.proofs.Laws.{AllBytes}
-use Rattle.fields.specs.declared.rule.Verdict.the-variants as verdict
+use Rattle.fields.specs.declared.rule.Validity.the-variants as validity
 use Rattle.journal.specs.Entry.{Entry, historyBytes}
 use Rattle.journal.specs.History.{fittingRun}
 use Rattle.journal.specs.Change.{entryOf}
-use Rattle.journal.specs.Setting.{Setting}
+use Rattle.journal.specs.EditSystem.{EditSystem}
 use Rattle.journal.specs.Book.{Standing, fileAfter, keptEntries, together, dropOldest, trimmed, anyKept, withoutLast}
-use Rattle.journal.proofs.Laws.{GoodEntry, AllGood, good-append, history-none, history-size, history-sizes, kept-all, kept-none, kept-oldest}
-use Rattle.journal.proofs.ChangeLaws.{good-entryOf}
+use Rattle.journal.proofs.Laws.{ValidEntry, AllValid, valid-append, history-none, history-size, history-sizes, kept-all, kept-none, kept-oldest}
+use Rattle.journal.proofs.ChangeLaws.{valid-entryOf}
 
 known : (t : Bool) → (t ≡ true) ⊎ (t ≡ false)
 known true = inl refl
@@ -24,7 +24,7 @@ known false = inr refl
 
 -- ---- entries oldest first and newest first
 
-pub together-reverse : (S : Setting) (es : List Entry) → length (historyBytes (reverse es)) ≡ together S es
+pub together-reverse : (S : EditSystem) (es : List Entry) → length (historyBytes (reverse es)) ≡ together S es
 unfolding together
 together-reverse S [] = ap length history-none
 together-reverse S (e ∷ es) =
@@ -37,15 +37,15 @@ together-reverse S (e ∷ es) =
       together-reverse S es,
     )
 
-pub good-reverse : (es : List Entry) → AllGood es → AllGood (reverse es)
-good-reverse [] g = tt
-good-reverse (e ∷ es) g = rw (reverse-cons e es) (good-append (reverse es) (e ∷ []) (good-reverse es (g .1)) (g .0, tt))
+pub valid-reverse : (es : List Entry) → AllValid es → AllValid (reverse es)
+valid-reverse [] g = tt
+valid-reverse (e ∷ es) g = rw (reverse-cons e es) (valid-append (reverse es) (e ∷ []) (valid-reverse es (g .1)) (g .0, tt))
 
 none-left : (size : ℕ) (es : List Entry) → length es ≤ 0 → reverse es ≡ fittingRun size (reverse es)
 none-left size [] h = sym (kept-none size)
 none-left size (e ∷ es) h = absurd (omega arith)
 
-kept-tail : (S : Setting) (size : ℕ) (es : List Entry) → size < together S es → fittingRun size (reverse es) ≡ fittingRun size (reverse (tail es))
+kept-tail : (S : EditSystem) (size : ℕ) (es : List Entry) → size < together S es → fittingRun size (reverse es) ≡ fittingRun size (reverse (tail es))
 kept-tail S size [] h = refl
 kept-tail S size (e ∷ es) h =
     let r = reverse-cons e es in
@@ -67,9 +67,9 @@ none-after : (t u : Bool) (e : Entry) (es : List Entry) → t || u ≡ false →
 none-after true u e es h g = absurd (true≢false h)
 none-after false u e es h g = g h
 
-good-front : (t : Bool) (e : Entry) (es : List Entry) → GoodEntry e → AllGood es → AllGood (cond t (e ∷ es) es)
-good-front true e es g h = (g, h)
-good-front false e es g h = h
+valid-front : (t : Bool) (e : Entry) (es : List Entry) → ValidEntry e → AllValid es → AllValid (cond t (e ∷ es) es)
+valid-front true e es g h = (g, h)
+valid-front false e es g h = h
 
 entries-by : (t : Bool) (e : Entry) (es : List Entry) (n : ℕ) → length es ≤ n → length (cond t (e ∷ es) es) ≤ suc n
 entries-by true e es n h = omega arith
@@ -84,26 +84,26 @@ or-second t u e h = rw e at h
 
 -- ---- the files of a book: each is accepted, made of bytes, and fits the room
 
-pub record Fine (S : Setting) (room : ℕ) (f : List ℕ) : Type 0 where
-  pub accepted : S .accepts f ≡ verdict.Good
+pub record Fine (S : EditSystem) (room : ℕ) (f : List ℕ) : Type 0 where
+  pub accepted : S .accepts f ≡ validity.Valid
   pub bytes : AllBytes f
   pub fits : length f ≤ room
 
 -- where an entry is kept, so are all later ones
-abbrev pub AllKept : (S : Setting) → List (Standing S) → Type 0
+abbrev pub AllKept : (S : EditSystem) → List (Standing S) → Type 0
 AllKept S [] = Unit
 AllKept S (s ∷ l) = (s .kept ≡ true) × AllKept S l
 
-abbrev pub NewestKept : (S : Setting) → List (Standing S) → Type 0
+abbrev pub NewestKept : (S : EditSystem) → List (Standing S) → Type 0
 NewestKept S [] = Unit
 NewestKept S (s ∷ l) = (s .kept ≡ true → AllKept S l) × NewestKept S l
 
 -- the file before and after each standing edit
-abbrev pub AllFine : (S : Setting) → ℕ → List ℕ → List (Standing S) → Type 0
+abbrev pub AllFine : (S : EditSystem) → ℕ → List ℕ → List (Standing S) → Type 0
 AllFine S room f [] = Fine S room f
 AllFine S room f (s ∷ l) = Fine S room f × AllFine S room (S .applied (s .made) f) l
 
-module _ (S : Setting) where
+module _ (S : EditSystem) where
   -- ---- one edit more
 
   pub file-last : (f : List ℕ) (l : List (Standing S)) (s : Standing S)
@@ -218,17 +218,17 @@ module _ (S : Setting) where
   fine-first room f (x ∷ l) h = h .0
 
   -- where accepted files are short enough, every entry is within its rule
-  pub entries-good : ((f : List ℕ) → S .accepts f ≡ verdict.Good → length f ≤ 1_048_576) → (room : ℕ) (f : List ℕ)
-      (l : List (Standing S)) → AllFine S room f l → AllGood (keptEntries S f l)
+  pub entries-valid : ((f : List ℕ) → S .accepts f ≡ validity.Valid → length f ≤ 1_048_576) → (room : ℕ) (f : List ℕ)
+      (l : List (Standing S)) → AllFine S room f l → AllValid (keptEntries S f l)
   unfolding keptEntries
-  entries-good short room f [] h = tt
-  entries-good short room f (x ∷ l) h =
+  entries-valid short room f [] h = tt
+  entries-valid short room f (x ∷ l) h =
       let g = S .applied (x .made) f in
       let old = h .0 in
       let new = fine-first room g l (h .1) in
-      good-front (x .kept) (entryOf f g) (keptEntries S g l)
-      (good-entryOf f g (short f (old .accepted)) (short g (new .accepted)) (old .bytes))
-      (entries-good short room g l (h .1))
+      valid-front (x .kept) (entryOf f g) (keptEntries S g l)
+      (valid-entryOf f g (short f (old .accepted)) (short g (new .accepted)) (old .bytes))
+      (entries-valid short room g l (h .1))
 
   -- ---- the oldest kept entry is dropped
 

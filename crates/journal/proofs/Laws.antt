@@ -22,15 +22,15 @@ use Rattle.varint.proofs.Laws.{below-or, number-returns, number-inside, number-
 -- ---- one entry
 
 -- numbers within their rule, old bytes that are bytes
-pub record GoodEntry (e : Entry) : Type 0 where
-  pub good-place : e .place ≤ 1_048_576
-  pub good-put : e .put ≤ 1_048_576
-  pub good-taken : length (e .old) ≤ 1_048_576
-  pub good-bytes : AllBytes (e .old)
+pub record ValidEntry (e : Entry) : Type 0 where
+  pub valid-place : e .place ≤ 1_048_576
+  pub valid-put : e .put ≤ 1_048_576
+  pub valid-taken : length (e .old) ≤ 1_048_576
+  pub valid-bytes : AllBytes (e .old)
 
-abbrev pub AllGood : List Entry → Type 0
-AllGood [] = Unit
-AllGood (e ∷ es) = GoodEntry e × AllGood es
+abbrev pub AllValid : List Entry → Type 0
+AllValid [] = Unit
+AllValid (e ∷ es) = ValidEntry e × AllValid es
 
 pub size-parts : (e : Entry)
     → entrySize e
@@ -49,15 +49,15 @@ size-least e =
       number-short (length (e .old)),
     )
 
-pub bytes-entry : (e : Entry) → GoodEntry e → AllBytes (entryBytes e)
+pub bytes-entry : (e : Entry) → ValidEntry e → AllBytes (entryBytes e)
 unfolding entryBytes
 bytes-entry e g =
     let p = numberBytes (e .place) in
     let k = numberBytes (e .put) in
     let m = numberBytes (length (e .old)) in
-    bytes-append p (k ++ (m ++ e .old)) (bytes-number (e .place) (g .good-place))
-    (bytes-append k (m ++ e .old) (bytes-number (e .put) (g .good-put))
-    (bytes-append m (e .old) (bytes-number (length (e .old)) (g .good-taken)) (g .good-bytes)))
+    bytes-append p (k ++ (m ++ e .old)) (bytes-number (e .place) (g .valid-place))
+    (bytes-append k (m ++ e .old) (bytes-number (e .put) (g .valid-put))
+    (bytes-append m (e .old) (bytes-number (length (e .old)) (g .valid-taken)) (g .valid-bytes)))
 
 -- the front of bytes by its three numbers
 pub with-place : (s : List ℕ) (p a : ℕ) → numberAt s ≡ Number p a → frontOf s ≡ withPut p (numberAt (drop a s)) (drop a s)
@@ -78,7 +78,7 @@ unfolding withOld
 with-cut s p k m c e h = rw (e, lt-leb (c + m) (length s) h)
 
 -- an entry that was written is read again
-pub front-returns : (e : Entry) (s : List ℕ) → GoodEntry e → frontOf (entryBytes e ++ s) ≡ front e s
+pub front-returns : (e : Entry) (s : List ℕ) → ValidEntry e → frontOf (entryBytes e ++ s) ≡ front e s
 unfolding entryBytes
 front-returns e s g =
     let np = numberBytes (e .place) in
@@ -89,11 +89,11 @@ front-returns e s g =
     let old : part t (length nm) (length (e .old)) ≡ e .old = part-at nm (e .old) s (length nm) (length (e .old)) refl refl in
     let rest : drop (length nm + length (e .old)) t ≡ s = drop-append-add nm (e .old ++ s) (length (e .old)) ∙ drop-append-seam (e .old) s in
     simp append-assoc
-    (with-place (np ++ (nk ++ t)) (e .place) (length np) (number-returns (e .place) (nk ++ t) (g .good-place))
+    (with-place (np ++ (nk ++ t)) (e .place) (length np) (number-returns (e .place) (nk ++ t) (g .valid-place))
     ∙ rw (drop-append-seam np (nk ++ t))
-    (with-put (nk ++ t) (e .place) (e .put) (length nk) (number-returns (e .put) t (g .good-put))
+    (with-put (nk ++ t) (e .place) (e .put) (length nk) (number-returns (e .put) t (g .valid-put))
     ∙ rw (drop-append-seam nk t)
-    (with-old t (e .place) (e .put) (length (e .old)) (length nm) (number-returns (length (e .old)) (e .old ++ s) (g .good-taken)) fits
+    (with-old t (e .place) (e .put) (length (e .old)) (length nm) (number-returns (length (e .old)) (e .old ++ s) (g .valid-taken)) fits
     ∙ rw (old, rest))))
 
 -- what bytes hold that are read as an entry: three numbers of a, b and c bytes, then the old bytes
@@ -188,7 +188,7 @@ number-front s x n h e =
 
 -- bytes that are read as an entry are the bytes of that entry
 pub front-canonical : (s : List ℕ) (e : Entry) (t : List ℕ) → AllBytes s → frontOf s ≡ front e t
-    → (s ≡ entryBytes e ++ t) × GoodEntry e × AllBytes t
+    → (s ≡ entryBytes e ++ t) × ValidEntry e × AllBytes t
 unfolding entryBytes
 front-canonical s e t h g =
     let f = front-read s e t g in
@@ -206,15 +206,15 @@ front-canonical s e t h g =
     ∙ rw (o .old-is, drop-drop (length (e .old)) (o .c) s₂, o .rest-is)
     in
     let all : s ≡ numberBytes (e .place) ++ (numberBytes (e .put) ++ (numberBytes (length (e .old)) ++ (e .old ++ t))) = cc in
-    let good : GoodEntry e =
+    let valid : ValidEntry e =
     record {
-      good-place = number-inside s (e .place) (f .a) (f .place-at) .1;
-      good-put = number-inside s₁ (e .put) (u .b) (u .put-at) .1;
-      good-taken = number-inside s₂ (length (e .old)) (o .c) (o .taken-at) .1;
-      good-bytes = rw (o .old-is) at (bytes-part s₂ (o .c) (length (e .old)) h₂);
+      valid-place = number-inside s (e .place) (f .a) (f .place-at) .1;
+      valid-put = number-inside s₁ (e .put) (u .b) (u .put-at) .1;
+      valid-taken = number-inside s₂ (length (e .old)) (o .c) (o .taken-at) .1;
+      valid-bytes = rw (o .old-is) at (bytes-part s₂ (o .c) (length (e .old)) h₂);
     }
     in
-    (all ∙ simp append-assoc, good, rw (o .rest-is) at (bytes-drop (o .c + length (e .old)) s₂ h₂))
+    (all ∙ simp append-assoc, valid, rw (o .rest-is) at (bytes-drop (o .c + length (e .old)) s₂ h₂))
 
 no-cons : {A : Type 0} (e : Entry) (es : List Entry) → [] ≡ e ∷ es → A
 no-cons e es f = let z : _≡_ {A = ℕ} 0 1 = cc in absurd (omega arith)
@@ -230,19 +230,19 @@ rest-shorter : (b : ℕ) (s : List ℕ) → length (restOf (frontOf (b ∷ s))) 
 rest-shorter b s =
     front-rest (frontOf (b ∷ s)) (length s) (λ e t f. omega (arith, front-shorter (b ∷ s) e t f))
 
--- as many turns as there are bytes are enough
-pub turns-enough : (m n : ℕ) (s : List ℕ) → length s ≤ m → length s ≤ n → entriesUpTo m s ≡ entriesUpTo n s
+-- as many iterations as there are bytes are enough
+pub steps-enough : (m n : ℕ) (s : List ℕ) → length s ≤ m → length s ≤ n → entriesUpTo m s ≡ entriesUpTo n s
 unfolding entriesUpTo
-turns-enough zero zero s h g = refl
-turns-enough zero (suc n) [] h g = refl
-turns-enough zero (suc n) (b ∷ s) h g = absurd (omega arith)
-turns-enough (suc m) zero [] h g = refl
-turns-enough (suc m) zero (b ∷ s) h g = absurd (omega arith)
-turns-enough (suc m) (suc n) [] h g = refl
-turns-enough (suc m) (suc n) (b ∷ s) h g =
+steps-enough zero zero s h g = refl
+steps-enough zero (suc n) [] h g = refl
+steps-enough zero (suc n) (b ∷ s) h g = absurd (omega arith)
+steps-enough (suc m) zero [] h g = refl
+steps-enough (suc m) zero (b ∷ s) h g = absurd (omega arith)
+steps-enough (suc m) (suc n) [] h g = refl
+steps-enough (suc m) (suc n) (b ∷ s) h g =
     let r = restOf (frontOf (b ∷ s)) in
     let l : length r ≤ length s = rest-shorter b s in
-    ap (λ (t : Entries). before (frontOf (b ∷ s)) t) (turns-enough m n r (omega arith) (omega arith))
+    ap (λ (t : Entries). before (frontOf (b ∷ s)) t) (steps-enough m n r (omega arith) (omega arith))
 
 pub entries-none : entriesOf [] ≡ whole []
 unfolding entriesOf entriesUpTo
@@ -255,7 +255,7 @@ entries-step [] h = absurd (omega arith)
 entries-step (b ∷ s) h =
     let r = restOf (frontOf (b ∷ s)) in
     let l : length r ≤ length s = rest-shorter b s in
-    ap (λ (t : Entries). before (frontOf (b ∷ s)) t) (turns-enough (length s) (length r) r l (omega arith))
+    ap (λ (t : Entries). before (frontOf (b ∷ s)) t) (steps-enough (length s) (length r) r l (omega arith))
 
 pub entries-next : (s : List ℕ) (e : Entry) (t : List ℕ) → frontOf s ≡ front e t → entriesOf s ≡ before (front e t) (entriesOf t)
 unfolding restOf
@@ -266,7 +266,7 @@ unfolding before
 entries-stop s h f = entries-step s h ∙ rw f
 
 -- a history that was written is read again
-pub entries-return : (es : List Entry) → AllGood es → entriesOf (historyBytes es) ≡ whole es
+pub entries-return : (es : List Entry) → AllValid es → entriesOf (historyBytes es) ≡ whole es
 unfolding historyBytes before
 entries-return [] g = entries-none
 entries-return (e ∷ es) g =
@@ -278,8 +278,8 @@ not-whole es f = let z : _≡_ {A = ℕ} 0 1 = cc in absurd (omega arith)
 
 -- bytes that are read as a history are the bytes of that history
 canonical-after : (s : List ℕ) (f : Front) (r : Entries) (es : List Entry) → ((e : Entry) (t : List ℕ) → f ≡ front e t
-    → (s ≡ entryBytes e ++ t) × GoodEntry e) → ((es₁ : List Entry) → r ≡ whole es₁ → (historyBytes es₁ ≡ restOf f) × AllGood es₁)
-    → before f r ≡ whole es → (historyBytes es ≡ s) × AllGood es
+    → (s ≡ entryBytes e ++ t) × ValidEntry e) → ((es₁ : List Entry) → r ≡ whole es₁ → (historyBytes es₁ ≡ restOf f) × AllValid es₁)
+    → before f r ≡ whole es → (historyBytes es ≡ s) × AllValid es
 unfolding before restOf historyBytes
 canonical-after s (front e t) (whole es₁) es h i g =
     let q : e ∷ es₁ ≡ es = cc in
@@ -294,7 +294,7 @@ unfolding restOf
 bytes-rest (front e t) h = h e t refl
 bytes-rest none h = bytes-nil
 
-canonical-up-to : (n : ℕ) (s : List ℕ) (es : List Entry) → AllBytes s → entriesUpTo n s ≡ whole es → (historyBytes es ≡ s) × AllGood es
+canonical-up-to : (n : ℕ) (s : List ℕ) (es : List Entry) → AllBytes s → entriesUpTo n s ≡ whole es → (historyBytes es ≡ s) × AllValid es
 unfolding entriesUpTo historyBytes
 canonical-up-to zero [] es h f = let q : [] ≡ es = cc in rw (← q) (refl, tt)
 canonical-up-to zero (b ∷ s) es h f = not-whole es f
@@ -306,7 +306,7 @@ canonical-up-to (suc n) (b ∷ s) es h f =
     (λ e t i. let a = front-canonical (b ∷ s) e t h i in (a .0, a .1))
     (λ es₁ i. canonical-up-to n (restOf u) es₁ g i) f
 
-pub entries-canonical : (s : List ℕ) (es : List Entry) → AllBytes s → entriesOf s ≡ whole es → (historyBytes es ≡ s) × AllGood es
+pub entries-canonical : (s : List ℕ) (es : List Entry) → AllBytes s → entriesOf s ≡ whole es → (historyBytes es ≡ s) × AllValid es
 unfolding entriesOf
 entries-canonical s es h f = canonical-up-to (length s) s es h f
 
@@ -333,21 +333,21 @@ pub history-least : (es : List Entry) → 3 * length es ≤ length (historyBytes
 history-least [] = omega arith
 history-least (e ∷ es) = omega (arith, history-size e es, size-least e, history-least es)
 
-pub bytes-history : (es : List Entry) → AllGood es → AllBytes (historyBytes es)
+pub bytes-history : (es : List Entry) → AllValid es → AllBytes (historyBytes es)
 unfolding historyBytes
 bytes-history [] g = bytes-nil
 bytes-history (e ∷ es) g = bytes-append (entryBytes e) (historyBytes es) (bytes-entry e (g .0)) (bytes-history es (g .1))
 
-pub good-append : (a b : List Entry) → AllGood a → AllGood b → AllGood (a ++ b)
-good-append [] b ga gb = gb
-good-append (e ∷ a) b ga gb = (ga .0, good-append a b (ga .1) gb)
+pub valid-append : (a b : List Entry) → AllValid a → AllValid b → AllValid (a ++ b)
+valid-append [] b ga gb = gb
+valid-append (e ∷ a) b ga gb = (ga .0, valid-append a b (ga .1) gb)
 
-pub good-left : (a b : List Entry) → AllGood (a ++ b) → AllGood a
-good-left [] b g = tt
-good-left (e ∷ a) b g = (g .0, good-left a b (g .1))
+pub valid-left : (a b : List Entry) → AllValid (a ++ b) → AllValid a
+valid-left [] b g = tt
+valid-left (e ∷ a) b g = (g .0, valid-left a b (g .1))
 
--- one list of good entries has these bytes
-pub history-one : (a b : List Entry) → AllGood a → AllGood b → historyBytes a ≡ historyBytes b → a ≡ b
+-- one list of valid entries has these bytes
+pub history-one : (a b : List Entry) → AllValid a → AllValid b → historyBytes a ≡ historyBytes b → a ≡ b
 history-one a b ga gb e =
     let f : whole a ≡ whole b = sym (entries-return a ga) ∙ ap entriesOf e ∙ entries-return b gb in
     cc
@@ -436,9 +436,9 @@ kept-bytes room es =
     in
     sym (ap (λ (l : List ℕ). take (length (historyBytes k)) l) f ∙ take-append-seam (historyBytes k) (historyBytes r))
 
-pub kept-good : (room : ℕ) (es : List Entry) → AllGood es → AllGood (fittingRun room es)
-kept-good room es g =
-    good-left (fittingRun room es) (drop (length (fittingRun room es)) es) (rw (kept-rest room es) g)
+pub kept-valid : (room : ℕ) (es : List Entry) → AllValid es → AllValid (fittingRun room es)
+kept-valid room es g =
+    valid-left (fittingRun room es) (drop (length (fittingRun room es)) es) (rw (kept-rest room es) g)
 
 -- a smaller room of a larger one
 pub kept-kept : (small large : ℕ) (es : List Entry) → small ≤ large → fittingRun small (fittingRun large es) ≡ fittingRun small es
@@ -488,9 +488,9 @@ recorded-kept size e es h = sym (kept-more size e es h)
 pub recorded-fits : (size : ℕ) (e : Entry) (es : List Entry) → entrySize e ≤ size → length (historyBytes (recorded size e es)) ≤ size
 recorded-fits size e es h = rw (recorded-kept size e es h) (kept-fits size (e ∷ es))
 
-pub recorded-good : (size : ℕ) (e : Entry) (es : List Entry) → GoodEntry e → AllGood es → AllGood (recorded size e es)
+pub recorded-valid : (size : ℕ) (e : Entry) (es : List Entry) → ValidEntry e → AllValid es → AllValid (recorded size e es)
 unfolding recorded
-recorded-good size e es g gs = (g, kept-good (size - entrySize e) es gs)
+recorded-valid size e es g gs = (g, kept-valid (size - entrySize e) es gs)
 
 pub recorded-bytes : (size : ℕ) (e : Entry) (es : List Entry)
     → historyBytes (recorded size e es) ≡ entryBytes e ++ historyBytes (fittingRun (size - entrySize e) es)
@@ -499,7 +499,7 @@ recorded-bytes size e es = refl
 
 -- ---- taking the first entry back
 
-pub history-first : (e : Entry) (es : List Entry) → GoodEntry e → frontOf (historyBytes (e ∷ es)) ≡ front e (historyBytes es)
+pub history-first : (e : Entry) (es : List Entry) → ValidEntry e → frontOf (historyBytes (e ∷ es)) ≡ front e (historyBytes es)
 unfolding historyBytes
 history-first e es g = front-returns e (historyBytes es) g
 

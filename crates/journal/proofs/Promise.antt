@@ -11,67 +11,67 @@ use lib.Dec.{leb}
 use borrow.Author.Tests.{leb-false}
 use Rattle.fields.specs.Rule.{_then_, unless}
 use Rattle.fields.specs.Bytes.{AllBytes}
-use Rattle.fields.specs.declared.rule.Verdict.{Verdict}
-use Rattle.fields.specs.declared.rule.Verdict.the-variants as verdict
+use Rattle.fields.specs.declared.rule.Validity.{Validity}
+use Rattle.fields.specs.declared.rule.Validity.the-variants as validity
 use Rattle.journal.specs.Entry.{entrySize, historyBytes, whole}
 use Rattle.journal.specs.Change.{entryOf}
-use Rattle.journal.specs.Setting.{Setting, Call, edit, undo}
+use Rattle.journal.specs.EditSystem.{EditSystem, Call, edit, undo}
 use Rattle.journal.specs.Promise.{EveryEdit, EveryList}
 use Rattle.journal.specs.Machine.{State, opened, fileOf, historyOf, buffersRule, step, next, answers, final}
 use Rattle.journal.specs.Book.{Book, book, bookFile, fileAfter, keptEntries, bookEditRule, withEdit, afterEdit, anyKept, withoutLast}
 use Rattle.journal.specs.Book.{withStanding, bookUndoRule, afterUndo, bookLengths, answerBy, bookNext, bookAnswer, bookAnswers, bookFinal}
 use Rattle.journal.specs.declared.answer.Answer.the-variants.{Done, Refused}
-use Rattle.journal.proofs.StepLaws.{Follows, Step, newestFirst, file-fine, edit-step, undo-step, entries-in, stands-good}
+use Rattle.journal.proofs.StepLaws.{Simulates, Step, newestFirst, file-fine, edit-step, undo-step, history-entries, stands-valid}
 
--- ---- what the promise needs of a setting
+-- ---- what the promise needs of an edit system
 
 -- an edit that is not refused gives an accepted file of bytes that fits the room; an accepted file has at most 1,048,576 bytes. P says
 -- which edits the promise speaks of
-pub record Laws (S : Setting) (P : S .Edit → Type 0) : Type 0 where
-  pub result-good : (e : S .Edit) (room : ℕ) (f : List ℕ) → AllBytes f → S .accepts f ≡ verdict.Good → P e
-      → S .refuses e room f ≡ verdict.Good
-      → (S .accepts (S .applied e f) ≡ verdict.Good) × ((length (S .applied e f) ≤ room) × AllBytes (S .applied e f))
-  pub short : (f : List ℕ) → S .accepts f ≡ verdict.Good → length f ≤ 1_048_576
+pub record EditSystemLaws (S : EditSystem) (P : S .Edit → Type 0) : Type 0 where
+  pub result-valid : (e : S .Edit) (room : ℕ) (f : List ℕ) → AllBytes f → S .accepts f ≡ validity.Valid → P e
+      → S .refuses e room f ≡ validity.Valid
+      → (S .accepts (S .applied e f) ≡ validity.Valid) × ((length (S .applied e f) ≤ room) × AllBytes (S .applied e f))
+  pub short : (f : List ℕ) → S .accepts f ≡ validity.Valid → length f ≤ 1_048_576
 
 -- ---- call by call
 
-edit-follows : (S : Setting) (P : S .Edit → Type 0) (L : Laws S P) (e : S .Edit) (m : State) (b : Book S) → P e → Follows S m b → Step S (edit e) m b
-edit-follows S P L e m b p h =
+edit-simulates : (S : EditSystem) (P : S .Edit → Type 0) (L : EditSystemLaws S P) (e : S .Edit) (m : State) (b : Book S) → P e → Simulates S m b → Step S (edit e) m b
+edit-simulates S P L e m b p h =
     let now = file-fine S m b h in
     edit-step S (L .short) m b h e
     (λ g.
-    let r = L .result-good e (b .roomSize) (bookFile S b) (now .bytes) (now .accepted) p g in
+    let r = L .result-valid e (b .roomSize) (bookFile S b) (now .bytes) (now .accepted) p g in
     record { accepted = r .0; bytes = r .1 .1; fits = r .1 .0 })
 
 -- what holds after a list of calls
-record Agree (S : Setting) (calls : List (Call S)) (m : State) (b : Book S) : Type 0 where
+record Agree (S : EditSystem) (calls : List (Call S)) (m : State) (b : Book S) : Type 0 where
   same-answers : answers S calls m ≡ bookAnswers S calls b
-  follows-on : Follows S (final S calls m) (bookFinal S calls b)
+  simulates-on : Simulates S (final S calls m) (bookFinal S calls b)
 
-agree-more : (S : Setting) (c : Call S) (calls : List (Call S)) (m : State) (b : Book S) → Step S c m b
+agree-more : (S : EditSystem) (c : Call S) (calls : List (Call S)) (m : State) (b : Book S) → Step S c m b
     → Agree S calls (next S c m) (bookNext S c b) → Agree S (c ∷ calls) m b
 unfolding answers bookAnswers final bookFinal
 agree-more S c calls m b s a =
     record {
       same-answers = rw (s .same-answer, a .same-answers);
-      follows-on = a .follows-on;
+      simulates-on = a .simulates-on;
     }
 
-agree : (S : Setting) (P : S .Edit → Type 0) (L : Laws S P) (calls : List (Call S)) → EveryEdit S P calls → (m : State) (b : Book S) → Follows S m b → Agree S calls m b
+agree : (S : EditSystem) (P : S .Edit → Type 0) (L : EditSystemLaws S P) (calls : List (Call S)) → EveryEdit S P calls → (m : State) (b : Book S) → Simulates S m b → Agree S calls m b
 unfolding answers bookAnswers final bookFinal
-agree S P L [] p m b h = record { same-answers = refl; follows-on = h }
+agree S P L [] p m b h = record { same-answers = refl; simulates-on = h }
 agree S P L (edit e ∷ calls) p m b h =
-    let s = edit-follows S P L e m b (p .0) h in
-    agree-more S (edit e) calls m b s (agree S P L calls (p .1) (next S (edit e) m) (bookNext S (edit e) b) (s .follows))
+    let s = edit-simulates S P L e m b (p .0) h in
+    agree-more S (edit e) calls m b s (agree S P L calls (p .1) (next S (edit e) m) (bookNext S (edit e) b) (s .simulates))
 agree S P L (undo ∷ calls) p m b h =
     let s = undo-step S (L .short) m b h in
-    agree-more S undo calls m b s (agree S P L calls p (next S undo m) (bookNext S undo b) (s .follows))
+    agree-more S undo calls m b s (agree S P L calls p (next S undo m) (bookNext S undo b) (s .simulates))
 
 -- at the start: the history's content is empty
-follows-opened : (S : Setting) (f spare h : List ℕ) → S .accepts f ≡ verdict.Good → AllBytes f
-    → Follows S (opened f spare h) (book S f (length (f ++ spare)) (length h))
+simulates-opened : (S : EditSystem) (f spare h : List ℕ) → S .accepts f ≡ validity.Valid → AllBytes f
+    → Simulates S (opened f spare h) (book S f (length (f ++ spare)) (length h))
 unfolding opened book bookFile fileAfter keptEntries fileOf historyBytes
-follows-opened S f spare h good bytes =
+simulates-opened S f spare h valid bytes =
     record {
       file-is = take-append-seam f spare;
       file-length = refl;
@@ -80,49 +80,49 @@ follows-opened S f spare h good bytes =
       entries-length = refl;
       history-size-is = refl;
       entries-fit = omega arith;
-      all-fine = record { accepted = good; bytes = bytes; fits = omega (arith, length-append f spare) };
+      all-fine = record { accepted = valid; bytes = bytes; fits = omega (arith, length-append f spare) };
       newest-kept = tt;
     }
 
 -- ---- the promise
 
 -- the file f opened in a room with any spare bytes, and any history buffer
-pub promise : (S : Setting) (P : S .Edit → Type 0) → Laws S P → EveryList S P
-promise S P L f spare h good bytes calls p =
-    let a = agree S P L calls p (opened f spare h) (book S f (length (f ++ spare)) (length h)) (follows-opened S f spare h good bytes) in
-    (a .same-answers, a .follows-on .file-is)
+pub promise : (S : EditSystem) (P : S .Edit → Type 0) → EditSystemLaws S P → EveryList S P
+promise S P L f spare h valid bytes calls p =
+    let a = agree S P L calls p (opened f spare h) (book S f (length (f ++ spare)) (length h)) (simulates-opened S f spare h valid bytes) in
+    (a .same-answers, a .simulates-on .file-is)
 
 -- ---- what follows, after any list of calls
 
 -- the two buffers and the book after a list of calls
-abbrev pub stateAfter : (S : Setting) → List ℕ → List ℕ → List ℕ → List (Call S) → State
+abbrev pub stateAfter : (S : EditSystem) → List ℕ → List ℕ → List ℕ → List (Call S) → State
 stateAfter S f spare h calls = final S calls (opened f spare h)
 
-abbrev pub bookAfter : (S : Setting) → List ℕ → List ℕ → List ℕ → List (Call S) → Book S
+abbrev pub bookAfter : (S : EditSystem) → List ℕ → List ℕ → List ℕ → List (Call S) → Book S
 bookAfter S f spare h calls = bookFinal S calls (book S f (length (f ++ spare)) (length h))
 
 -- a book keeps its opening file and the sizes
-record Keeps (S : Setting) (a b : Book S) : Type 0 where
+record Keeps (S : EditSystem) (a b : Book S) : Type 0 where
   same-opening : a .opening ≡ b .opening
   same-room : a .roomSize ≡ b .roomSize
   same-history : a .historySize ≡ b .historySize
 
-edit-keeps : (S : Setting) (v : Verdict) (e : S .Edit) (b : Book S) → Keeps S (afterEdit S v e b) b
+edit-keeps : (S : EditSystem) (v : Validity) (e : S .Edit) (b : Book S) → Keeps S (afterEdit S v e b) b
 unfolding afterEdit withEdit withStanding
-edit-keeps S verdict.Good e b = record { same-opening = refl; same-room = refl; same-history = refl }
-edit-keeps S (verdict.Refused n p) e b = record { same-opening = refl; same-room = refl; same-history = refl }
+edit-keeps S validity.Valid e b = record { same-opening = refl; same-room = refl; same-history = refl }
+edit-keeps S (validity.Refused n p) e b = record { same-opening = refl; same-room = refl; same-history = refl }
 
-undo-keeps : (S : Setting) (v : Verdict) (b : Book S) → Keeps S (afterUndo S v b) b
+undo-keeps : (S : EditSystem) (v : Validity) (b : Book S) → Keeps S (afterUndo S v b) b
 unfolding afterUndo withStanding
-undo-keeps S verdict.Good b = record { same-opening = refl; same-room = refl; same-history = refl }
-undo-keeps S (verdict.Refused n p) b = record { same-opening = refl; same-room = refl; same-history = refl }
+undo-keeps S validity.Valid b = record { same-opening = refl; same-room = refl; same-history = refl }
+undo-keeps S (validity.Refused n p) b = record { same-opening = refl; same-room = refl; same-history = refl }
 
-keeps-next : (S : Setting) (c : Call S) (b : Book S) → Keeps S (bookNext S c b) b
+keeps-next : (S : EditSystem) (c : Call S) (b : Book S) → Keeps S (bookNext S c b) b
 unfolding bookNext
 keeps-next S (edit e) b = edit-keeps S (bookEditRule S e b) e b
 keeps-next S undo b = undo-keeps S (bookUndoRule S b) b
 
-keeps-final : (S : Setting) (calls : List (Call S)) (b : Book S) → Keeps S (bookFinal S calls b) b
+keeps-final : (S : EditSystem) (calls : List (Call S)) (b : Book S) → Keeps S (bookFinal S calls b) b
 unfolding bookFinal
 keeps-final S [] b = record { same-opening = refl; same-room = refl; same-history = refl }
 keeps-final S (c ∷ calls) b =
@@ -135,45 +135,45 @@ keeps-final S (c ∷ calls) b =
     }
 
 -- where a book refuses
-answer-refused : (S : Setting) (v : Verdict) (b : Book S) (n p : ℕ) → answerBy S v b ≡ Refused n p → v ≡ verdict.Refused n p
+answer-refused : (S : EditSystem) (v : Validity) (b : Book S) (n p : ℕ) → answerBy S v b ≡ Refused n p → v ≡ validity.Refused n p
 unfolding answerBy bookLengths
-answer-refused S verdict.Good b n p e = let z : _≡_ {A = ℕ} 0 1 = cc in absurd (omega arith)
-answer-refused S (verdict.Refused k q) b n p e = cc
+answer-refused S validity.Valid b n p e = let z : _≡_ {A = ℕ} 0 1 = cc in absurd (omega arith)
+answer-refused S (validity.Refused k q) b n p e = cc
 
-answer-done : (S : Setting) (v : Verdict) (b : Book S) (len used n : ℕ) → answerBy S v b ≡ Done len used n → v ≡ verdict.Good
+answer-done : (S : EditSystem) (v : Validity) (b : Book S) (len used n : ℕ) → answerBy S v b ≡ Done len used n → v ≡ validity.Valid
 unfolding answerBy
-answer-done S verdict.Good b len used n e = refl
-answer-done S (verdict.Refused k q) b len used n e = let z : _≡_ {A = ℕ} 0 1 = cc in absurd (omega arith)
+answer-done S validity.Valid b len used n e = refl
+answer-done S (validity.Refused k q) b len used n e = let z : _≡_ {A = ℕ} 0 1 = cc in absurd (omega arith)
 
-unless-refused : (t : Bool) (number n p : ℕ) → unless t number 0 ≡ verdict.Refused n p → ((n ≡ number) × (p ≡ 0)) × (t ≡ false)
+unless-refused : (t : Bool) (number n p : ℕ) → unless t number 0 ≡ validity.Refused n p → ((n ≡ number) × (p ≡ 0)) × (t ≡ false)
 unfolding unless
 unless-refused true number n p e = let z : _≡_ {A = ℕ} 0 1 = cc in absurd (omega arith)
 unless-refused false number n p e = ((cc, cc), refl)
 
-then-refusals : (a : Verdict) (t : Bool) (number n p : ℕ) → a then unless t number 0 ≡ verdict.Refused n p
-    → (a ≡ verdict.Refused n p) ⊎ (((n ≡ number) × (p ≡ 0)) × (t ≡ false))
+then-refusals : (a : Validity) (t : Bool) (number n p : ℕ) → a then unless t number 0 ≡ validity.Refused n p
+    → (a ≡ validity.Refused n p) ⊎ (((n ≡ number) × (p ≡ 0)) × (t ≡ false))
 unfolding _then_
-then-refusals verdict.Good t number n p e = inr (unless-refused t number n p e)
-then-refusals (verdict.Refused k q) t number n p e = inl e
+then-refusals validity.Valid t number n p e = inr (unless-refused t number n p e)
+then-refusals (validity.Refused k q) t number n p e = inl e
 
-module _ (S : Setting) (P : S .Edit → Type 0) (L : Laws S P) (f spare h : List ℕ) (good : S .accepts f ≡ verdict.Good) (bytes : AllBytes f)
+module _ (S : EditSystem) (P : S .Edit → Type 0) (L : EditSystemLaws S P) (f spare h : List ℕ) (valid : S .accepts f ≡ validity.Valid) (bytes : AllBytes f)
     (calls : List (Call S)) (proper : EveryEdit S P calls) where
   -- the room holds the book's file, and the history the kept entries, newest first
-  pub follows-after : Follows S (stateAfter S f spare h calls) (bookAfter S f spare h calls)
-  follows-after =
-      agree S P L calls proper (opened f spare h) (book S f (length (f ++ spare)) (length h)) (follows-opened S f spare h good bytes) .follows-on
+  pub simulates-after : Simulates S (stateAfter S f spare h calls) (bookAfter S f spare h calls)
+  simulates-after =
+      agree S P L calls proper (opened f spare h) (book S f (length (f ++ spare)) (length h)) (simulates-opened S f spare h valid bytes) .simulates-on
 
   -- the history's bytes are exactly the book's kept entries: the number of entries answered is the number that they hold
   pub entries-after : historyOf (stateAfter S f spare h calls) ≡ whole (newestFirst S (bookAfter S f spare h calls))
-  entries-after = entries-in S (L .short) (stateAfter S f spare h calls) (bookAfter S f spare h calls) follows-after
+  entries-after = history-entries S (L .short) (stateAfter S f spare h calls) (bookAfter S f spare h calls) simulates-after
 
   -- 30, the file's own refusal and 31 do not arise
-  pub stands-after : buffersRule S (stateAfter S f spare h calls) ≡ verdict.Good
-  stands-after = stands-good S (L .short) (stateAfter S f spare h calls) (bookAfter S f spare h calls) follows-after
+  pub stands-after : buffersRule S (stateAfter S f spare h calls) ≡ validity.Valid
+  stands-after = stands-valid S (L .short) (stateAfter S f spare h calls) (bookAfter S f spare h calls) simulates-after
 
   -- an edit is refused by its own refusals of the file, and then by 37 at 0 where its entry alone exceeds the history buffer: no other
   pub edit-refusals : (e : S .Edit) → P e → (n p : ℕ) → step S (edit e) (stateAfter S f spare h calls) .answer ≡ Refused n p
-      → (S .refuses e (length (f ++ spare)) (fileOf (stateAfter S f spare h calls)) ≡ verdict.Refused n p)
+      → (S .refuses e (length (f ++ spare)) (fileOf (stateAfter S f spare h calls)) ≡ validity.Refused n p)
       ⊎ (((n ≡ 37) × (p ≡ 0))
       × (length h
       < entrySize (entryOf (fileOf (stateAfter S f spare h calls)) (S .applied e (fileOf (stateAfter S f spare h calls))))))
@@ -182,8 +182,8 @@ module _ (S : Setting) (P : S .Edit → Type 0) (L : Laws S P) (f spare h : List
       let m = stateAfter S f spare h calls in
       let b = bookAfter S f spare h calls in
       let k = keeps-final S calls (book S f (length (f ++ spare)) (length h)) in
-      let file : fileOf m ≡ bookFile S b = follows-after .file-is in
-      let r = answer-refused S (bookEditRule S e b) (bookNext S (edit e) b) n p (sym (edit-follows S P L e m b ok follows-after .same-answer) ∙ a) in
+      let file : fileOf m ≡ bookFile S b = simulates-after .file-is in
+      let r = answer-refused S (bookEditRule S e b) (bookNext S (edit e) b) n p (sym (edit-simulates S P L e m b ok simulates-after .same-answer) ∙ a) in
       let size = entrySize (entryOf (bookFile S b) (S .applied e (bookFile S b))) in
       ⊎-elim
       (λ own. inl (rw file (ap (λ (x : ℕ). S .refuses e x (bookFile S b)) (sym (k .same-room)) ∙ own)))
@@ -199,7 +199,7 @@ module _ (S : Setting) (P : S .Edit → Type 0) (L : Laws S P) (f spare h : List
   undo-refusals n p a =
       let m = stateAfter S f spare h calls in
       let b = bookAfter S f spare h calls in
-      let r = answer-refused S (bookUndoRule S b) (bookNext S undo b) n p (sym (undo-step S (L .short) m b follows-after .same-answer) ∙ a) in
+      let r = answer-refused S (bookUndoRule S b) (bookNext S undo b) n p (sym (undo-step S (L .short) m b simulates-after .same-answer) ∙ a) in
       unless-refused (anyKept S (b .standing)) 38 n p r
 
   pub undo-refused : anyKept S (bookAfter S f spare h calls .standing) ≡ false
@@ -208,7 +208,7 @@ module _ (S : Setting) (P : S .Edit → Type 0) (L : Laws S P) (f spare h : List
   undo-refused none =
       let m = stateAfter S f spare h calls in
       let b = bookAfter S f spare h calls in
-      undo-step S (L .short) m b follows-after .same-answer ∙ rw none
+      undo-step S (L .short) m b simulates-after .same-answer ∙ rw none
 
   -- an undo that is accepted takes back the last standing edit: the file is that of the standing edits without the last
   pub undo-takes-back : (len used n : ℕ) → step S undo (stateAfter S f spare h calls) .answer ≡ Done len used n
@@ -217,7 +217,7 @@ module _ (S : Setting) (P : S .Edit → Type 0) (L : Laws S P) (f spare h : List
   undo-takes-back len used n a =
       let m = stateAfter S f spare h calls in
       let b = bookAfter S f spare h calls in
-      let s = undo-step S (L .short) m b follows-after in
+      let s = undo-step S (L .short) m b simulates-after in
       let k = keeps-final S calls (book S f (length (f ++ spare)) (length h)) in
-      let g : bookUndoRule S b ≡ verdict.Good = answer-done S (bookUndoRule S b) (bookNext S undo b) len used n (sym (s .same-answer) ∙ a) in
-      s .follows .file-is ∙ rw (g, k .same-opening)
+      let g : bookUndoRule S b ≡ validity.Valid = answer-done S (bookUndoRule S b) (bookNext S undo b) len used n (sym (s .same-answer) ∙ a) in
+      s .simulates .file-is ∙ rw (g, k .same-opening)

@@ -7,14 +7,15 @@ use lib.ListN.{length, take, length-append, length-take}
 use lib.Seq.{take-take}
 use Rattle.fields.specs.Bytes.{part, over, zeros}
 use Rattle.fields.proofs.Laws.{AllBytes, bytes-take, length-part, length-zeros, over-over, over-zero}
-use Rattle.affixes.specs.Common.{commonStart}
-use Rattle.affixes.proofs.Laws.{commonStart-left}
-use Rattle.moves.proofs.Laws.{over-ahead}
+use Rattle.affixes.specs.Common.{commonPrefix}
+use Rattle.affixes.proofs.Laws.{commonPrefix-left}
+use Rattle.buffers.proofs.Laws.{over-ahead}
 use Rattle.varint.specs.Number.{numberBytes}
 use Rattle.journal.specs.Entry.{Entry, entryBytes, entrySize, historyBytes, Entries, whole, broken, entriesOf}
 use Rattle.journal.specs.History.{fittingRun, recorded}
-use Rattle.journal.specs.Scan.{numberOfEntries, runOf}
-use Rattle.journal.specs.Change.{tailOf, entryOf}
+use Rattle.journal.specs.History.{numberOfEntries}
+use Rattle.journal.specs.Scan.{runOf}
+use Rattle.journal.specs.Change.{suffixLength, entryOf}
 use Rattle.journal.specs.Machine.{holding}
 use Rattle.journal.specs.Span.{spanOf, entryFrom, Sound, spanSize, recordedIn, Reserved}
 use Rattle.journal.specs.declared.recording.Span.{Span}
@@ -51,7 +52,7 @@ from-bytes s old h = from-size s old h
 pub sound-entryOf : (old new : List ℕ) → length old ≤ 1_048_576 → length new ≤ 1_048_576 → Sound (spanOf (entryOf old new))
 unfolding Sound spanOf
 sound-entryOf old new h g = (
-  unfold entryOf in omega (arith, commonStart-left old new),
+  unfold entryOf in omega (arith, commonPrefix-left old new),
   (unfold entryOf in omega arith, rw (length-taken old new) (omega arith)),
 )
 
@@ -59,8 +60,8 @@ taken-part : (old new : List ℕ)
     → entryOf old new .old ≡ part old (spanOf (entryOf old new) .place) (spanOf (entryOf old new) .taken)
 unfolding spanOf entryOf
 taken-part old new =
-    let p = commonStart old new in
-    let n = length old - (commonStart old new + tailOf old new) in
+    let p = commonPrefix old new in
+    let n = length old - (commonPrefix old new + suffixLength old new) in
     ap (λ (m : ℕ). part old p m) (sym (length-part old p n (omega (arith, tail-left old new))))
 
 -- the old bytes are those of the old file at p

@@ -1,4 +1,4 @@
--- Laws for the code: an entry at a place of a list, and the scans of a history, turn by turn.
+-- Laws for the code: an entry at a place of a list, and the scans of a history, iteration by iteration.
 use Prim.Native.Nat.{ℕ, suc, _+_, _-_, _≤_, _<_}
 use mathlib.Core.Path.{_≡_, refl, ap, sym, _∙_}
 use mathlib.Core.List.{List, _∷_, _++_}
@@ -12,7 +12,8 @@ use Rattle.varint.specs.Number.{numberAt}
 use Rattle.journal.specs.Entry.{Entry, entryBytes, entrySize, historyBytes, Front, front, none, withOld, withPut, withPlace}
 use Rattle.journal.specs.Entry.{frontOf, Entries, whole, broken, before, entriesOf}
 use Rattle.journal.specs.History.{fittingRun}
-use Rattle.journal.specs.Scan.{numberOfEntries, headOf, runOf}
+use Rattle.journal.specs.History.{numberOfEntries}
+use Rattle.journal.specs.Scan.{headOf, runOf}
 use Rattle.varint.specs.declared.NumberRead.{NumberRead}
 use Rattle.varint.specs.declared.NumberRead.the-variants.{Number, Broken}
 use Rattle.journal.specs.declared.scan.EntryHead.{EntryHead}
@@ -24,7 +25,7 @@ use Rattle.journal.specs.declared.scan.Run.{Run}
 use Rattle.varint.proofs.Laws.{number-inside}
 use Rattle.journal.proofs.Laws.{with-place, with-put, with-old, with-cut}
 use Rattle.journal.proofs.Laws.{front-read, front-canonical, entries-none, entries-next, entries-stop}
-use Rattle.journal.proofs.Laws.{history-none, history-size, kept-none, kept-more, kept-stop, AllGood, GoodEntry, entries-return, history-first}
+use Rattle.journal.proofs.Laws.{history-none, history-size, kept-none, kept-more, kept-stop, AllValid, ValidEntry, entries-return, history-first}
 
 -- ---- the entry at a place
 
@@ -183,7 +184,7 @@ head-size s k h b r =
       r .inside,
     )
 
--- ---- counting entries, turn by turn
+-- ---- counting entries, iteration by iteration
 
 -- n entries more
 unfoldable pub added : ℕ → HistoryRead → HistoryRead
@@ -203,9 +204,9 @@ counted-next n e t broken = refl
 pub counted-start : (s : List ℕ) → numberOfEntries (entriesOf s) ≡ added 0 (numberOfEntries (entriesOf (drop 0 s)))
 counted-start s = added-none (numberOfEntries (entriesOf s))
 
-pub counted-turn : (s : List ℕ) (k n m : ℕ) (h : EntryHead) (all : HistoryRead) → all ≡ added n (numberOfEntries (entriesOf (drop k s)))
+pub counted-step : (s : List ℕ) (k n m : ℕ) (h : EntryHead) (all : HistoryRead) → all ≡ added n (numberOfEntries (entriesOf (drop k s)))
     → HeadRead s k h → m ≡ n + 1 → all ≡ added m (numberOfEntries (entriesOf (drop (h .next) s)))
-counted-turn s k n m h all e r one =
+counted-step s k n m h all e r one =
     let t = drop (h .next) s in
     e ∙ rw (one, entries-next (drop k s) (r .entry) t (r .front-is)) (counted-next n (r .entry) t (entriesOf t))
 
@@ -221,7 +222,7 @@ counted-end s k n all e h =
     let z : n + 0 ≡ n = omega arith in
     sym (e ∙ rw (drop-of-length-le s h, entries-none, z))
 
--- ---- the run that fits, turn by turn
+-- ---- the run that fits, iteration by iteration
 
 -- k bytes and n entries are passed
 unfoldable pub runFrom : ℕ → ℕ → ℕ → Entries → Run
@@ -270,9 +271,9 @@ pub fitting-start : (s : List ℕ) (room : ℕ) → (numberOfEntries (entriesOf 
 unfolding numberOfEntries
 fitting-start s room u = record { same = run-zero room (entriesOf s); sound = λ e. u (rw e) }
 
-pub fitting-turn : {s : List ℕ} {room k n : ℕ} {h : EntryHead} → AllBytes s → Fitting s room k n → HeadRead s k h → h .next ≤ room
+pub fitting-step : {s : List ℕ} {room k n : ℕ} {h : EntryHead} → AllBytes s → Fitting s room k n → HeadRead s k h → h .next ≤ room
     → Fitting s room (h .next) (n + 1)
-fitting-turn {s} {room} {k} {n} {h} b f r g =
+fitting-step {s} {room} {k} {n} {h} b f r g =
     let t = drop (h .next) s in
     let e = entries-next (drop k s) (r .entry) t (r .front-is) in
     let u : before (front (r .entry) t) (entriesOf t) ≡ broken → ⊥ = λ z. f .sound (e ∙ z) in
@@ -315,18 +316,18 @@ held-by s n broken e f = let z : _≡_ {A = ℕ} 0 1 = cc in absurd (omega arith
 pub counted-held : (s : List ℕ) (n : ℕ) → numberOfEntries (entriesOf s) ≡ read.Entries n → Held s n
 counted-held s n f = held-by s n (entriesOf s) refl f
 
-pub counted-history : (es : List Entry) → AllGood es → numberOfEntries (entriesOf (historyBytes es)) ≡ read.Entries (length es)
+pub counted-history : (es : List Entry) → AllValid es → numberOfEntries (entriesOf (historyBytes es)) ≡ read.Entries (length es)
 unfolding numberOfEntries
 counted-history es g = rw (entries-return es g)
 
-pub run-history : (es : List Entry) (room : ℕ) → AllGood es
+pub run-history : (es : List Entry) (room : ℕ) → AllValid es
     → runOf (entriesOf (historyBytes es)) room
     ≡ record { bytes = length (historyBytes (fittingRun room es)); entries = length (fittingRun room es) }
 unfolding runOf
 run-history es room g = rw (entries-return es g)
 
 -- the head of a history's first entry
-pub head-first : (e : Entry) (es : List Entry) → GoodEntry e
+pub head-first : (e : Entry) (es : List Entry) → ValidEntry e
     → headOf (frontOf (historyBytes (e ∷ es))) (length (historyBytes (e ∷ es)))
     ≡ head.Entry (record {
       place = e .place;

@@ -9,25 +9,25 @@ use lib.Seq.{take-append-seam}
 use lib.Dec.{leb}
 use borrow.Author.Tests.{le-leb, leb-true}
 use Rattle.fields.specs.Bytes.{zeros}
-use Rattle.fields.specs.Rule.{_then_, unless, isGood}
-use Rattle.fields.proofs.Laws.{length-zeros, then-good, unless-good}
-use Rattle.fields.specs.declared.rule.Verdict.{Verdict}
-use Rattle.fields.specs.declared.rule.Verdict.the-variants as verdict
+use Rattle.fields.specs.Rule.{_then_, unless, isValid}
+use Rattle.fields.proofs.Laws.{length-zeros, then-valid, unless-valid}
+use Rattle.fields.specs.declared.rule.Validity.{Validity}
+use Rattle.fields.specs.declared.rule.Validity.the-variants as validity
 use Rattle.journal.specs.Entry.{Entry, whole, entrySize, historyBytes}
 use Rattle.journal.specs.History.{fittingRun, recorded}
 use Rattle.journal.specs.Change.{entryOf}
-use Rattle.journal.specs.Setting.{Setting}
+use Rattle.journal.specs.EditSystem.{EditSystem}
 use Rattle.journal.specs.Machine.{State, Outcome, holding, fileOf, historyOf, wholeRule, buffersRule, refused, done, newEntry, editRule}
-use Rattle.journal.specs.Setting.{Call, edit, undo}
-use Rattle.journal.specs.Machine.{editOutcome, editStep, entryFits, topRule, undoRule, undoOutcome, undoStep, entryList, step, after, next}
+use Rattle.journal.specs.EditSystem.{Call, edit, undo}
+use Rattle.journal.specs.Machine.{editOutcome, editStep, entryFits, topRule, undoRule, revertTop, withoutTop, undoOutcome, undoStep, entryList, step, after, next}
 use Rattle.journal.specs.Book.{Standing, Book, bookFile, fileAfter, keptEntries, trimmed, withStanding, bookEditRule, withEdit}
 use Rattle.journal.specs.Book.{afterEdit, anyKept, withoutLast, bookUndoRule, afterUndo, bookLengths, answerBy, bookNext, bookAnswer}
 use Rattle.journal.specs.declared.answer.Answer.the-variants.{Done, Refused}
-use Rattle.journal.proofs.Laws.{AllGood, entries-return, recorded-kept, recorded-fits, history-size}
+use Rattle.journal.proofs.Laws.{AllValid, entries-return, recorded-kept, recorded-fits, history-size}
 use Rattle.journal.proofs.ChangeLaws.{revert-entryOf, entryOf-inside}
-use Rattle.journal.proofs.BookLaws.{Fine, AllFine, NewestKept, together-reverse, good-reverse, file-last, entries-last, fine-more}
+use Rattle.journal.proofs.BookLaws.{Fine, AllFine, NewestKept, together-reverse, valid-reverse, file-last, entries-last, fine-more}
 use Rattle.journal.proofs.BookLaws.{newest-more, LastKept, last-kept, without-last, fine-less, newest-less, entries-none, fine-last}
-use Rattle.journal.proofs.BookLaws.{entries-good, fine-oldest, newest-oldest, trimmed-keeps, file-trimmed, entries-trimmed, entries-many}
+use Rattle.journal.proofs.BookLaws.{entries-valid, fine-oldest, newest-oldest, trimmed-keeps, file-trimmed, entries-trimmed, entries-many}
 
 -- ---- a buffer and its new content
 
@@ -42,11 +42,11 @@ length-holding d len s h g = rw (length-append, length-append, length-zeros, len
 -- ---- the two buffers and the book
 
 -- the kept entries as they stand in the history
-abbrev pub newestFirst : (S : Setting) → Book S → List Entry
+abbrev pub newestFirst : (S : EditSystem) → Book S → List Entry
 newestFirst S b = reverse (keptEntries S (b .opening) (b .standing))
 
 -- the room holds the book's file and the history the kept entries, newest first
-pub record Follows (S : Setting) (m : State) (b : Book S) : Type 0 where
+pub record Simulates (S : EditSystem) (m : State) (b : Book S) : Type 0 where
   pub file-is : fileOf m ≡ bookFile S b
   pub file-length : m .length-in-room ≡ length (bookFile S b)
   pub room-size : length (m .room) ≡ b .roomSize
@@ -57,30 +57,30 @@ pub record Follows (S : Setting) (m : State) (b : Book S) : Type 0 where
   pub all-fine : AllFine S (b .roomSize) (b .opening) (b .standing)
   pub newest-kept : NewestKept S (b .standing)
 
-pub file-fine : (S : Setting) (m : State) (b : Book S) → Follows S m b → Fine S (b .roomSize) (bookFile S b)
+pub file-fine : (S : EditSystem) (m : State) (b : Book S) → Simulates S m b → Fine S (b .roomSize) (bookFile S b)
 unfolding bookFile
 file-fine S m b h = fine-last S (b .roomSize) (b .opening) (b .standing) (h .all-fine)
 
 -- the same answer, and the buffers follow the book again
-pub record Step (S : Setting) (c : Call S) (m : State) (b : Book S) : Type 0 where
+pub record Step (S : EditSystem) (c : Call S) (m : State) (b : Book S) : Type 0 where
   pub same-answer : step S c m .answer ≡ bookAnswer S c b
-  pub follows : Follows S (next S c m) (bookNext S c b)
+  pub simulates : Simulates S (next S c m) (bookNext S c b)
 
-next-refused : (S : Setting) (c : Call S) (m : State) (n p : ℕ) → step S c m ≡ refused n p m → next S c m ≡ m
+next-refused : (S : EditSystem) (c : Call S) (m : State) (n p : ℕ) → step S c m ≡ refused n p m → next S c m ≡ m
 unfolding next after refused
 next-refused S c m n p e = rw e
 
-pub refused-step : (S : Setting) (c : Call S) (m : State) (b : Book S) (n p : ℕ) → step S c m ≡ refused n p m
-    → bookAnswer S c b ≡ Refused n p → bookNext S c b ≡ b → Follows S m b → Step S c m b
+pub refused-step : (S : EditSystem) (c : Call S) (m : State) (b : Book S) (n p : ℕ) → step S c m ≡ refused n p m
+    → bookAnswer S c b ≡ Refused n p → bookNext S c b ≡ b → Simulates S m b → Step S c m b
 unfolding refused
 refused-step S c m b n p e f g h =
     record {
       same-answer = rw (e, f);
-      follows = rw (next-refused S c m n p e, g) h;
+      simulates = rw (next-refused S c m n p e, g) h;
     }
 
 -- the standing edits l, with the file s and the entries es
-pub record Made (S : Setting) (b : Book S) (l : List (Standing S)) (s : List ℕ) (es : List Entry) : Type 0 where
+pub record Made (S : EditSystem) (b : Book S) (l : List (Standing S)) (s : List ℕ) (es : List Entry) : Type 0 where
   pub file-made : fileAfter S (b .opening) l ≡ s
   pub entries-made : reverse (keptEntries S (b .opening) l) ≡ es
   pub made-fit : length (historyBytes es) ≤ b .historySize
@@ -97,14 +97,14 @@ afterwards m s es =
       length-in-history = length (historyBytes es);
     }
 
-next-done : (S : Setting) (c : Call S) (m : State) (s : List ℕ) (es : List Entry) → step S c m ≡ done s es m → next S c m ≡ afterwards m s es
+next-done : (S : EditSystem) (c : Call S) (m : State) (s : List ℕ) (es : List Entry) → step S c m ≡ done s es m → next S c m ≡ afterwards m s es
 unfolding next after done
 next-done S c m s es e = rw e
 
-follows-made : (S : Setting) (m : State) (b : Book S) (l : List (Standing S)) (s : List ℕ) (es : List Entry) → Made S b l s es
-    → Follows S m b → Follows S (afterwards m s es) (withStanding S l b)
+simulates-made : (S : EditSystem) (m : State) (b : Book S) (l : List (Standing S)) (s : List ℕ) (es : List Entry) → Made S b l s es
+    → Simulates S m b → Simulates S (afterwards m s es) (withStanding S l b)
 unfolding bookFile withStanding fileOf
-follows-made S m b l s es made h =
+simulates-made S m b l s es made h =
     let fine = fine-last S (b .roomSize) (b .opening) l (made .made-fine) in
     let now = file-fine S m b h in
     let f = made .file-made in
@@ -124,7 +124,7 @@ follows-made S m b l s es made h =
     }
 
 -- what the book answers is what the buffers hold
-state-made : (S : Setting) (b : Book S) (l : List (Standing S)) (s : List ℕ) (es : List Entry) → Made S b l s es
+state-made : (S : EditSystem) (b : Book S) (l : List (Standing S)) (s : List ℕ) (es : List Entry) → Made S b l s es
     → bookLengths S (withStanding S l b) ≡ Done (length s) (length (historyBytes es)) (length es)
 unfolding bookLengths withStanding bookFile
 state-made S b l s es made =
@@ -136,33 +136,33 @@ state-made S b l s es made =
       length-reverse k,
     )
 
-pub done-step : (S : Setting) (c : Call S) (m : State) (b : Book S) (l : List (Standing S)) (s : List ℕ) (es : List Entry)
+pub done-step : (S : EditSystem) (c : Call S) (m : State) (b : Book S) (l : List (Standing S)) (s : List ℕ) (es : List Entry)
     → step S c m ≡ done s es m → bookAnswer S c b ≡ bookLengths S (bookNext S c b) → bookNext S c b ≡ withStanding S l b
-    → Made S b l s es → Follows S m b → Step S c m b
+    → Made S b l s es → Simulates S m b → Step S c m b
 unfolding done
 done-step S c m b l s es e f g made h =
     record {
       same-answer = ap (λ (o : Outcome). o .answer) e ∙ sym (f ∙ ap (λ (x : Book S). bookLengths S x) g ∙ state-made S b l s es made);
-      follows = rw (next-done S c m s es e, g) (follows-made S m b l s es made h);
+      simulates = rw (next-done S c m s es e, g) (simulates-made S m b l s es made h);
     }
 
 -- ---- a call on buffers that follow a book: 30, the file's own refusal and 31 do not arise
 
 -- accepted files are short enough for the numbers of an entry
-abbrev pub Short : Setting → Type 0
-Short S = (f : List ℕ) → S .accepts f ≡ verdict.Good → length f ≤ 1_048_576
+abbrev pub Short : EditSystem → Type 0
+Short S = (f : List ℕ) → S .accepts f ≡ validity.Valid → length f ≤ 1_048_576
 
-module _ (S : Setting) (short : Short S) (m : State) (b : Book S) (h : Follows S m b) where
-  pub entries-in : historyOf m ≡ whole (newestFirst S b)
+module _ (S : EditSystem) (short : Short S) (m : State) (b : Book S) (h : Simulates S m b) where
+  pub history-entries : historyOf m ≡ whole (newestFirst S b)
   unfolding historyOf
-  entries-in =
+  history-entries =
       let k = keptEntries S (b .opening) (b .standing) in
-      let g : AllGood k = entries-good S short (b .roomSize) (b .opening) (b .standing) (h .all-fine) in
-      rw (h .entries-are) (entries-return (reverse k) (good-reverse k g))
+      let g : AllValid k = entries-valid S short (b .roomSize) (b .opening) (b .standing) (h .all-fine) in
+      rw (h .entries-are) (entries-return (reverse k) (valid-reverse k g))
 
-  pub stands-good : buffersRule S m ≡ verdict.Good
+  pub stands-valid : buffersRule S m ≡ validity.Valid
   unfolding buffersRule wholeRule unless _then_
-  stands-good =
+  stands-valid =
       let fine = file-fine S m b h in
       let in-room : m .length-in-room ≤ length (m .room) = omega arith in
       let in-history : m .length-in-history ≤ length (m .history) = omega arith in
@@ -171,25 +171,25 @@ module _ (S : Setting) (short : Short S) (m : State) (b : Book S) (h : Follows S
         le-leb (m .length-in-history) (length (m .history)) in-history,
         h .file-is,
         fine .accepted,
-        entries-in,
+        history-entries,
       )
 
   -- ---- an edit
 
   pub edit-rule : (e : S .Edit) → editRule S e m ≡ bookEditRule S e b
   unfolding editRule bookEditRule newEntry _then_
-  edit-rule e = rw (stands-good, h .file-is, h .room-size, h .history-size-is)
+  edit-rule e = rw (stands-valid, h .file-is, h .room-size, h .history-size-is)
 
-  edit-refused : (e : S .Edit) (n p : ℕ) → bookEditRule S e b ≡ verdict.Refused n p → step S (edit e) m ≡ refused n p m
+  edit-refused : (e : S .Edit) (n p : ℕ) → bookEditRule S e b ≡ validity.Refused n p → step S (edit e) m ≡ refused n p m
   unfolding step editStep editOutcome
   edit-refused e n p f = rw (edit-rule e, f)
 
-  edit-done : (e : S .Edit) → bookEditRule S e b ≡ verdict.Good
+  edit-done : (e : S .Edit) → bookEditRule S e b ≡ validity.Valid
       → step S (edit e) m
       ≡ done (S .applied e (bookFile S b))
       (recorded (b .historySize) (entryOf (bookFile S b) (S .applied e (bookFile S b))) (newestFirst S b)) m
   unfolding step editStep editOutcome newEntry entryList
-  edit-done e f = rw (edit-rule e, f, entries-in, h .file-is, h .history-size-is)
+  edit-done e f = rw (edit-rule e, f, history-entries, h .file-is, h .history-size-is)
 
   -- the edit stands last, and what is kept is the longest run that fits
   edit-made : (e : S .Edit) → entrySize (entryOf (bookFile S b) (S .applied e (bookFile S b))) ≤ b .historySize
@@ -228,23 +228,23 @@ module _ (S : Setting) (short : Short S) (m : State) (b : Book S) (h : Follows S
             (newest-more S l s refl (h .newest-kept));
       }
 
-  edit-accepted : (e : S .Edit) → bookEditRule S e b ≡ verdict.Good
-      → (S .refuses e (b .roomSize) (bookFile S b) ≡ verdict.Good)
+  edit-accepted : (e : S .Edit) → bookEditRule S e b ≡ validity.Valid
+      → (S .refuses e (b .roomSize) (bookFile S b) ≡ validity.Valid)
       × (entrySize (entryOf (bookFile S b) (S .applied e (bookFile S b))) ≤ b .historySize)
   unfolding bookEditRule
   edit-accepted e f =
       let size = entrySize (entryOf (bookFile S b) (S .applied e (bookFile S b))) in
       let fits = leb size (b .historySize) in
-      let g = then-good (S .refuses e (b .roomSize) (bookFile S b)) (unless fits 37 0) f in
-      (g .0, leb-true size (b .historySize) (unless-good fits 37 0 (g .1)))
+      let g = then-valid (S .refuses e (b .roomSize) (bookFile S b)) (unless fits 37 0) f in
+      (g .0, leb-true size (b .historySize) (unless-valid fits 37 0 (g .1)))
 
-  edit-by : (e : S .Edit) (v : Verdict) → bookEditRule S e b ≡ v
-      → (S .refuses e (b .roomSize) (bookFile S b) ≡ verdict.Good → Fine S (b .roomSize) (S .applied e (bookFile S b)))
+  edit-by : (e : S .Edit) (v : Validity) → bookEditRule S e b ≡ v
+      → (S .refuses e (b .roomSize) (bookFile S b) ≡ validity.Valid → Fine S (b .roomSize) (S .applied e (bookFile S b)))
       → Step S (edit e) m b
   unfolding bookAnswer answerBy bookNext afterEdit withEdit
-  edit-by e (verdict.Refused n p) f fine =
+  edit-by e (validity.Refused n p) f fine =
       refused-step S (edit e) m b n p (edit-refused e n p f) (rw f) (rw f) h
-  edit-by e verdict.Good f fine =
+  edit-by e validity.Valid f fine =
       let g = edit-accepted e f in
       done-step S (edit e) m b
       (trimmed S (suc (length (b .standing))) (b .historySize) (b .opening) (b .standing ++ (record { made = e; kept = true } ∷ [])))
@@ -254,7 +254,7 @@ module _ (S : Setting) (short : Short S) (m : State) (b : Book S) (h : Follows S
 
   -- an edit whose result is fine wherever the edit itself does not refuse
   pub edit-step : (e : S .Edit)
-      → (S .refuses e (b .roomSize) (bookFile S b) ≡ verdict.Good → Fine S (b .roomSize) (S .applied e (bookFile S b)))
+      → (S .refuses e (b .roomSize) (bookFile S b) ≡ validity.Valid → Fine S (b .roomSize) (S .applied e (bookFile S b)))
       → Step S (edit e) m b
   edit-step e fine = edit-by e (bookEditRule S e b) refl fine
 
@@ -263,7 +263,7 @@ module _ (S : Setting) (short : Short S) (m : State) (b : Book S) (h : Follows S
   undo-refused : anyKept S (b .standing) ≡ false → step S undo m ≡ refused 38 0 m
   unfolding step undoStep undoRule topRule undoOutcome entryList _then_
   undo-refused f =
-      rw (stands-good, entries-in, entries-none S (b .opening) (b .standing) f)
+      rw (stands-valid, history-entries, entries-none S (b .opening) (b .standing) f)
 
   -- the last standing edit's entry is the newest kept one
   module _ (r : LastKept S (b .standing)) where
@@ -295,7 +295,7 @@ module _ (S : Setting) (short : Short S) (m : State) (b : Book S) (h : Follows S
     before-fine = fine-less S (b .roomSize) (b .opening) (r .front) (r .last) (rw (r .is) at (h .all-fine))
 
     last-fits : entryFits S last-entry m ≡ true
-    unfolding entryFits isGood
+    unfolding entryFits isValid
     last-fits =
         let fine = fine-last S (b .roomSize) (b .opening) (r .front) before-fine in
         let inside : last-entry .place + last-entry .put ≤ m .length-in-room = omega (arith, entryOf-inside file-before (bookFile S b)) in
@@ -309,11 +309,11 @@ module _ (S : Setting) (short : Short S) (m : State) (b : Book S) (h : Follows S
         )
 
     undo-done : step S undo m ≡ done file-before entries-before m
-    unfolding step undoStep undoRule topRule undoOutcome entryList _then_ unless
+    unfolding step undoStep undoRule topRule undoOutcome revertTop withoutTop entryList _then_ unless
     undo-done =
         rw (
-          stands-good,
-          entries-in,
+          stands-valid,
+          history-entries,
           newest-is,
           last-fits,
           h .file-is,

@@ -1,32 +1,32 @@
 -- The plain book (document 01, "The plain book"): the opening file and the standing edits in order, each with a note whether its entry is
--- kept. It is fed no answer, no length of a content and no history byte.
+-- kept. Book and standing are document 01's words: the book is the model that every answer is compared with. It is fed no answer, no length of a content and no history byte.
 use Prim.Native.Nat.{ℕ, zero, suc, _+_}
 use mathlib.Core.Bool.{Bool, true, false, _||_, cond}
 use mathlib.Core.List.{List, [], _∷_, _++_}
 use lib.ListN.{length}
 use lib.Dec.{leb}
 use Rattle.fields.specs.Rule.{_then_, unless}
-use Rattle.fields.specs.declared.rule.Verdict.{Verdict}
-use Rattle.fields.specs.declared.rule.Verdict.the-variants as verdict
+use Rattle.fields.specs.declared.rule.Validity.{Validity}
+use Rattle.fields.specs.declared.rule.Validity.the-variants as validity
 use Rattle.journal.specs.Entry.{Entry, entrySize, aloneRule}
 use Rattle.journal.specs.Change.{entryOf}
-use Rattle.journal.specs.Setting.{Setting, Call, edit, undo}
+use Rattle.journal.specs.EditSystem.{EditSystem, Call, edit, undo}
 use Rattle.journal.specs.declared.answer.Answer.{Answer}
 use Rattle.journal.specs.declared.answer.Answer.the-variants.{Done, Refused}
 
 -- an edit that stands, and whether its entry is kept
-pub record Standing (S : Setting) : Type 0 where
+pub record Standing (S : EditSystem) : Type 0 where
   pub made : S .Edit
   pub kept : Bool
 
 -- the opening file, the sizes of both buffers, and the standing edits, oldest first
-pub record Book (S : Setting) : Type 0 where
+pub record Book (S : EditSystem) : Type 0 where
   pub opening : List ℕ
   pub roomSize : ℕ
   pub historySize : ℕ
   pub standing : List (Standing S)
 
-module _ (S : Setting) where
+module _ (S : EditSystem) where
   -- the book at the start: an opening file and the sizes of both buffers; no edit stands
   unfoldable pub book : List ℕ → ℕ → ℕ → Book S
   book f room history = record { opening = f; roomSize = room; historySize = history; standing = [] }
@@ -64,7 +64,7 @@ module _ (S : Setting) where
 
   -- ---- an edit
 
-  unfoldable pub bookEditRule : S .Edit → Book S → Verdict
+  unfoldable pub bookEditRule : S .Edit → Book S → Validity
   bookEditRule e b =
       S .refuses e (b .roomSize) (bookFile b)
       then aloneRule (entryOf (bookFile b) (S .applied e (bookFile b))) (b .historySize)
@@ -74,9 +74,9 @@ module _ (S : Setting) where
   withEdit e b =
       withStanding (trimmed (suc (length (b .standing))) (b .historySize) (b .opening) (b .standing ++ (record { made = e; kept = true } ∷ []))) b
 
-  unfoldable pub afterEdit : Verdict → S .Edit → Book S → Book S
-  afterEdit verdict.Good e b = withEdit e b
-  afterEdit (verdict.Refused n p) e b = b
+  unfoldable pub afterEdit : Validity → S .Edit → Book S → Book S
+  afterEdit validity.Valid e b = withEdit e b
+  afterEdit (validity.Refused n p) e b = b
 
   -- ---- an undo
 
@@ -90,12 +90,12 @@ module _ (S : Setting) where
   withoutLast (s ∷ []) = []
   withoutLast (s ∷ (t ∷ l)) = s ∷ withoutLast (t ∷ l)
 
-  unfoldable pub bookUndoRule : Book S → Verdict
+  unfoldable pub bookUndoRule : Book S → Validity
   bookUndoRule b = unless (anyKept (b .standing)) 38 0
 
-  unfoldable pub afterUndo : Verdict → Book S → Book S
-  afterUndo verdict.Good b = withStanding (withoutLast (b .standing)) b
-  afterUndo (verdict.Refused n p) b = b
+  unfoldable pub afterUndo : Validity → Book S → Book S
+  afterUndo validity.Valid b = withStanding (withoutLast (b .standing)) b
+  afterUndo (validity.Refused n p) b = b
 
   -- ---- a call: what it answers, and the book afterwards
 
@@ -104,9 +104,9 @@ module _ (S : Setting) where
   bookLengths b =
       Done (length (bookFile b)) (together (keptEntries (b .opening) (b .standing))) (length (keptEntries (b .opening) (b .standing)))
 
-  unfoldable pub answerBy : Verdict → Book S → Answer
-  answerBy verdict.Good b = bookLengths b
-  answerBy (verdict.Refused n p) b = Refused n p
+  unfoldable pub answerBy : Validity → Book S → Answer
+  answerBy validity.Valid b = bookLengths b
+  answerBy (validity.Refused n p) b = Refused n p
 
   unfoldable pub bookNext : Call S → Book S → Book S
   bookNext (edit e) b = afterEdit (bookEditRule e b) e b

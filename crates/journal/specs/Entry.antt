@@ -1,4 +1,4 @@
--- Entries of the history (document 01, "The history"): p, k, m, then m bytes; newest first.
+-- Entries of the history (document 01's word for the undo journal; "The history"): p, k, m, then m bytes; newest first.
 use Prim.Native.Nat.{ℕ, zero, suc, _+_}
 use mathlib.Core.Bool.{cond}
 use mathlib.Core.List.{List, [], _∷_, _++_}
@@ -6,7 +6,7 @@ use lib.ListN.{length, drop}
 use lib.Dec.{leb}
 use Rattle.fields.specs.Bytes.{part}
 use Rattle.fields.specs.Rule.{unless}
-use Rattle.fields.specs.declared.rule.Verdict.{Verdict}
+use Rattle.fields.specs.declared.rule.Validity.{Validity}
 use Rattle.varint.specs.Number.{numberBytes, numberAt}
 use Rattle.varint.specs.declared.NumberRead.{NumberRead}
 use Rattle.varint.specs.declared.NumberRead.the-variants.{Number, Broken}
@@ -28,7 +28,7 @@ unfoldable pub entrySize : Entry → ℕ
 entrySize e = length (entryBytes e)
 
 -- 37: a new entry alone exceeds a history buffer of so many bytes
-abbrev pub aloneRule : Entry → ℕ → Verdict
+abbrev pub aloneRule : Entry → ℕ → Validity
 aloneRule e size = unless (leb (entrySize e) size) 37 0
 
 unfoldable pub historyBytes : List Entry → List ℕ

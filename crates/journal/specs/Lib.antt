@@ -2,7 +2,7 @@
 pub mod Entry
 pub mod History
 pub mod Change
-pub mod Setting
+pub mod EditSystem
 pub mod Machine
 pub mod Book
 pub mod Promise

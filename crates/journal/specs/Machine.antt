@@ -5,17 +5,18 @@ use mathlib.Core.List.{List, [], _∷_, _++_}
 use lib.ListN.{length, take, drop}
 use lib.Dec.{leb}
 use Rattle.fields.specs.Bytes.{zeros}
-use Rattle.fields.specs.Rule.{_then_, unless, isGood}
-use Rattle.fields.specs.declared.rule.Verdict.{Verdict}
-use Rattle.fields.specs.declared.rule.Verdict.the-variants as verdict
+use Rattle.fields.specs.Rule.{_then_, unless, isValid}
+use Rattle.fields.specs.declared.rule.Validity.{Validity}
+use Rattle.fields.specs.declared.rule.Validity.the-variants as validity
 use Rattle.journal.specs.Entry.{Entry, Entries, whole, broken, entriesOf, aloneRule, historyBytes}
 use Rattle.journal.specs.History.{recorded}
 use Rattle.journal.specs.Change.{entryOf, revert}
-use Rattle.journal.specs.Setting.{Setting, Call, edit, undo}
+use Rattle.journal.specs.EditSystem.{EditSystem, Call, edit, undo}
 use Rattle.journal.specs.declared.answer.Answer.{Answer}
 use Rattle.journal.specs.declared.answer.Answer.the-variants.{Done, Refused}
 
--- two buffers, each with the length of its content
+-- two buffers, each with the length of its content: the room (document 01's word) holds the codeplug and then spare bytes, the history what
+-- undo needs
 pub record State : Type 0 where
   pub room : List ℕ
   pub length-in-room : ℕ
@@ -36,7 +37,7 @@ holding d len s = s ++ (zeros (len - length s) ++ drop (max len (length s)) d)
 unfoldable pub opened : List ℕ → List ℕ → List ℕ → State
 opened f spare h = record { room = f ++ spare; length-in-room = length f; history = h; length-in-history = 0 }
 
--- ---- what both calls judge first: 30, the codeplug's own refusal, 31
+-- ---- what both calls validate first: 30, the codeplug's own refusal, 31
 
 unfoldable pub fileOf : State → List ℕ
 fileOf m = take (m .length-in-room) (m .room)
@@ -49,11 +50,11 @@ unfoldable pub entryList : Entries → List Entry
 entryList (whole es) = es
 entryList broken = []
 
-unfoldable pub wholeRule : Entries → Verdict
-wholeRule (whole es) = verdict.Good
-wholeRule broken = verdict.Refused 31 0
+unfoldable pub wholeRule : Entries → Validity
+wholeRule (whole es) = validity.Valid
+wholeRule broken = validity.Refused 31 0
 
-unfoldable pub buffersRule : Setting → State → Verdict
+unfoldable pub buffersRule : EditSystem → State → Validity
 buffersRule S m =
     unless (leb (m .length-in-room) (length (m .room)) && leb (m .length-in-history) (length (m .history))) 30 0
     then S .accepts (fileOf m)
@@ -75,50 +76,57 @@ done s es m =
 
 -- ---- an edit: 30, the codeplug's own, 31, the edit's own, 37
 
-unfoldable pub newEntry : (S : Setting) → S .Edit → List ℕ → Entry
+unfoldable pub newEntry : (S : EditSystem) → S .Edit → List ℕ → Entry
 newEntry S e f = entryOf f (S .applied e f)
 
-unfoldable pub editRule : (S : Setting) → S .Edit → State → Verdict
+unfoldable pub editRule : (S : EditSystem) → S .Edit → State → Validity
 editRule S e m =
     buffersRule S m
     then S .refuses e (length (m .room)) (fileOf m)
     then aloneRule (newEntry S e (fileOf m)) (length (m .history))
 
-unfoldable pub editOutcome : (S : Setting) → S .Edit → State → Verdict → List Entry → Outcome
-editOutcome S e m (verdict.Refused n p) es = refused n p m
-editOutcome S e m verdict.Good es =
+unfoldable pub editOutcome : (S : EditSystem) → S .Edit → State → Validity → List Entry → Outcome
+editOutcome S e m (validity.Refused n p) es = refused n p m
+editOutcome S e m validity.Valid es =
     done (S .applied e (fileOf m)) (recorded (length (m .history)) (newEntry S e (fileOf m)) es) m
 
-unfoldable pub editStep : (S : Setting) → S .Edit → State → Outcome
+unfoldable pub editStep : (S : EditSystem) → S .Edit → State → Outcome
 editStep S e m = editOutcome S e m (editRule S e m) (entryList (historyOf m))
 
 -- ---- an undo: 30, the codeplug's own, 31, 38 where the history is empty, 39 where its top entry does not fit
 
 -- p + k stays within the codeplug, the result within the room, and reading it does not refuse
-unfoldable pub entryFits : Setting → Entry → State → Bool
+unfoldable pub entryFits : EditSystem → Entry → State → Bool
 entryFits S e m =
     leb (e .place + e .put) (m .length-in-room)
-    && (leb (length (revert e (fileOf m))) (length (m .room)) && isGood (S .accepts (revert e (fileOf m))))
+    && (leb (length (revert e (fileOf m))) (length (m .room)) && isValid (S .accepts (revert e (fileOf m))))
 
-unfoldable pub topRule : Setting → List Entry → State → Verdict
-topRule S [] m = verdict.Refused 38 0
+unfoldable pub topRule : EditSystem → List Entry → State → Validity
+topRule S [] m = validity.Refused 38 0
 topRule S (e ∷ es) m = unless (entryFits S e m) 39 0
 
-unfoldable pub undoRule : Setting → State → Verdict
+unfoldable pub undoRule : EditSystem → State → Validity
 undoRule S m = buffersRule S m then topRule S (entryList (historyOf m)) m
 
--- (at Good there is a top entry: `undoRule` has judged it)
-unfoldable pub undoOutcome : Setting → State → Verdict → List Entry → Outcome
-undoOutcome S m (verdict.Refused n p) es = refused n p m
-undoOutcome S m verdict.Good (e ∷ es) = done (revert e (fileOf m)) es m
-undoOutcome S m verdict.Good [] = refused 38 0 m
+-- the file without the top entry's edit, and the entries behind it (of no entries 38 was given before)
+unfoldable pub revertTop : List Entry → List ℕ → List ℕ
+revertTop [] f = f
+revertTop (e ∷ es) f = revert e f
 
-unfoldable pub undoStep : Setting → State → Outcome
+unfoldable pub withoutTop : List Entry → List Entry
+withoutTop [] = []
+withoutTop (e ∷ es) = es
+
+unfoldable pub undoOutcome : EditSystem → State → Validity → List Entry → Outcome
+undoOutcome S m (validity.Refused n p) es = refused n p m
+undoOutcome S m validity.Valid es = done (revertTop es (fileOf m)) (withoutTop es) m
+
+unfoldable pub undoStep : EditSystem → State → Outcome
 undoStep S m = undoOutcome S m (undoRule S m) (entryList (historyOf m))
 
 -- ---- a list of calls on the same two buffers
 
-unfoldable pub step : (S : Setting) → Call S → State → Outcome
+unfoldable pub step : (S : EditSystem) → Call S → State → Outcome
 step S (edit e) m = editStep S e m
 step S undo m = undoStep S m
 
@@ -127,14 +135,14 @@ unfoldable pub after : Answer → Outcome → State → State
 after (Done len used n) o m = record { room = o .room; length-in-room = len; history = o .history; length-in-history = used }
 after (Refused n p) o m = record { room = o .room; length-in-room = m .length-in-room; history = o .history; length-in-history = m .length-in-history }
 
-unfoldable pub next : (S : Setting) → Call S → State → State
+unfoldable pub next : (S : EditSystem) → Call S → State → State
 next S c m = after (step S c m .answer) (step S c m) m
 
 -- the answers to a list of calls, and the state after it
-unfoldable pub answers : (S : Setting) → List (Call S) → State → List Answer
+unfoldable pub answers : (S : EditSystem) → List (Call S) → State → List Answer
 answers S [] m = []
 answers S (c ∷ l) m = step S c m .answer ∷ answers S l (next S c m)
 
-unfoldable pub final : (S : Setting) → List (Call S) → State → State
+unfoldable pub final : (S : EditSystem) → List (Call S) → State → State
 final S [] m = m
 final S (c ∷ l) m = final S l (next S c m)

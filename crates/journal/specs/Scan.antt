@@ -6,13 +6,6 @@ use Rattle.journal.specs.History.{fittingRun}
 use Rattle.journal.specs.declared.scan.EntryRead.{EntryRead}
 use Rattle.journal.specs.declared.scan.EntryRead.the-variants as read
 use Rattle.journal.specs.declared.scan.Run.{Run}
-use Rattle.journal.specs.declared.scan.HistoryRead.{HistoryRead}
-use Rattle.journal.specs.declared.scan.HistoryRead.the-variants as history
-
--- how many entries bytes hold, or that they are not whole entries
-unfoldable pub numberOfEntries : Entries → HistoryRead
-numberOfEntries (whole es) = history.Entries (length es)
-numberOfEntries broken = history.Broken
 
 -- the entry at the front of the rest of a history of n bytes: its old bytes end where what follows it begins
 unfoldable pub headOf : Front → ℕ → EntryRead

@@ -8,7 +8,7 @@ use Rattle.fields.specs.Bytes.{over}
 use Rattle.varint.specs.Number.{numberBytes}
 use Rattle.journal.specs.Entry.{Entry, Entries, whole, broken, entriesOf, historyBytes}
 use Rattle.journal.specs.History.{recorded}
-use Rattle.journal.specs.Scan.{numberOfEntries}
+use Rattle.journal.specs.History.{numberOfEntries}
 use Rattle.journal.specs.Machine.{holding}
 use Rattle.journal.specs.declared.scan.HistoryRead.the-variants.{Broken}
 use Rattle.journal.specs.declared.scan.Run.{Run}

@@ -1,9 +1,9 @@
 // An edit's entry put in front of the history.
 use crate::scan::Run;
 use crate::scan::fitting;
+use buffers::block::clear;
+use buffers::block::move_up;
 use fields::put::put;
-use moves::block::clear;
-use moves::block::move_up;
 use varint::number_length;
 use varint::put_number;
 ghost use mathlib.Core.Path.{_≡_};
@@ -43,7 +43,7 @@ fn write_entry(d: &mut [u8], s: Span, old: &[u8])
     put(d, c, old);
 }
 
-// How far a passes b.
+// a - b, or 0 where b is larger.
 fn excess(a: usize, b: usize) -> usize
     ensures { λ r. ⌜ r ≡ a - b ⌝ }
 {

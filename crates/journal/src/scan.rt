@@ -5,7 +5,8 @@ ghost use mathlib.Core.Path.{_≡_};
 ghost use Prim.Native.Nat.{_+_, _≤_};
 ghost use lib.ListN.{length, drop};
 ghost use Rattle.journal.specs.Entry.{frontOf, entriesOf, Entries};
-ghost use Rattle.journal.specs.Scan.{numberOfEntries, headOf, runOf};
+ghost use Rattle.journal.specs.History.{numberOfEntries};
+ghost use Rattle.journal.specs.Scan.{headOf, runOf};
 
 // Where an entry's parts stand: its place and lengths, its old bytes' place and the place after it.
 pub struct EntryHead {
@@ -34,7 +35,7 @@ pub struct Run {
 }
 
 // The entry at place k.
-pub fn entry_at(s: &[u8], k: usize) -> EntryRead
+pub fn history_entry_at(s: &[u8], k: usize) -> EntryRead
     requires { ⌜ k ≤ length (now s) ⌝ }
     ensures { λ r. ⌜ r ≡ headOf (frontOf (drop k (now (s .entry)))) (length (now (s .entry))) ⌝ }
 {
@@ -61,13 +62,13 @@ pub fn entry_at(s: &[u8], k: usize) -> EntryRead
 }
 
 // How many entries a history holds, or that it is not whole entries.
-pub fn entries_in(s: &[u8]) -> HistoryRead
+pub fn history_entries(s: &[u8]) -> HistoryRead
     ensures { λ r. ⌜ r ≡ numberOfEntries (entriesOf (now (s .entry))) ⌝ }
 {
     let mut k = 0;
     let mut n = 0;
     while k < s.len() {
-        match entry_at(s, k) {
+        match history_entry_at(s, k) {
             EntryRead::Entry(e) => {
                 k = e.next;
                 n += 1;
@@ -79,14 +80,14 @@ pub fn entries_in(s: &[u8]) -> HistoryRead
 }
 
 // The longest run of a history's entries, from the front, within so many bytes.
-pub fn fitting(s: &[u8], room: usize) -> Run
+pub(crate) fn fitting(s: &[u8], room: usize) -> Run
     requires { ⌜ (numberOfEntries (entriesOf (now s)) ≡ HistoryRead.Broken → ⊥) ⌝ }
     ensures { λ r. ⌜ r ≡ runOf (entriesOf (now (s .entry))) room ⌝ }
 {
     let mut bytes = 0;
     let mut entries = 0;
     while bytes < s.len() {
-        match entry_at(s, bytes) {
+        match history_entry_at(s, bytes) {
             EntryRead::Entry(e) => {
                 let next = e.next;
                 if room < next {

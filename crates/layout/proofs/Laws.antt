@@ -11,9 +11,9 @@ use borrow.Author.Tests.{eqb-true, leb-true, ltb-true}
 use Rattle.fields.specs.Bytes.{part, num}
 use Rattle.text.specs.Text.{textOk}
 use Rattle.fields.specs.Rule.{_then_, unless, field, each}
-use Rattle.fields.specs.declared.rule.Verdict.{Verdict}
-use Rattle.fields.specs.declared.rule.Verdict.the-variants.{Good, Refused}
-use Rattle.fields.proofs.Laws.{part-inside, then-good, good-then, then-assoc, then-refused, unless-good, field-good, each-good, AllBytes, num-lt}
+use Rattle.fields.specs.declared.rule.Validity.{Validity}
+use Rattle.fields.specs.declared.rule.Validity.the-variants.{Valid, Refused}
+use Rattle.fields.proofs.Laws.{part-inside, then-valid, valid-then, then-assoc, then-refused, unless-valid, field-valid, each-valid, AllBytes, num-lt}
 use Rattle.layout.specs.Places.{contactCount, channelCount, bankCount, offsetPlace, banksPlace}
 use Rattle.layout.specs.Header.{headerRule}
 use Rattle.layout.specs.Banks.{offsetAt, offsetsRule, entryAt, entryCount, bankHead, bankAt, nextBank, banksFrom, banksRule}
@@ -22,25 +22,25 @@ use Rattle.layout.specs.Banks.{bankFrom, bankPlace}
 -- ---- parts that are lent
 
 -- from the end on nothing is left
-pub lend-none : (f : List ℕ) (n p w : ℕ) → n ≡ length f → length f ≤ p → take (length f - n) (drop n f) ≡ part f p w
-lend-none f n p w e h =
+pub record-bytes-none : (f : List ℕ) (n p w : ℕ) → n ≡ length f → length f ≤ p → take (length f - n) (drop n f) ≡ part f p w
+record-bytes-none f n p w e h =
     let d : length f - n ≡ 0 = omega arith in
     rw (d, drop-of-length-le f h, take-nil w)
 
 -- all the bytes
-pub lend-all : (f : List ℕ) (p w e : ℕ) → e ≡ p + w → take (e - p) (drop p f) ≡ part f p w
-lend-all f p w e h =
+pub record-bytes-all : (f : List ℕ) (p w e : ℕ) → e ≡ p + w → take (e - p) (drop p f) ≡ part f p w
+record-bytes-all f p w e h =
     let d : e - p ≡ w = omega arith in
     rw d
 
 -- as many as there are
-pub lend-rest : (f : List ℕ) (p w : ℕ) → length f ≤ p + w → take (length f - p) (drop p f) ≡ part f p w
-lend-rest f p w h =
+pub record-bytes-rest : (f : List ℕ) (p w : ℕ) → length f ≤ p + w → take (length f - p) (drop p f) ≡ part f p w
+record-bytes-rest f p w h =
     let a : length (drop p f) ≤ w = rw length-drop (omega arith) in
     let b : length (drop p f) ≤ length f - p = rw length-drop (omega arith) in
     take-all (length f - p) (drop p f) b ∙ sym (take-all w (drop p f) a)
 
--- ---- one bank, judged in two steps
+-- ---- one bank, validated in two steps
 
 -- its offset and its head, then its entries
 bankAt-split : (f : List ℕ) (t p : ℕ)
@@ -50,7 +50,7 @@ unfolding bankAt
 bankAt-split f t p =
     sym (then-assoc (unless (eqb (banksPlace f + num f t 4) p) 10 t) (bankHead f p) (each (entryAt f) (entryCount f p) 2 (p + 34)))
 
-pub bankAt-bad : (f : List ℕ) (t p : ℕ) (v : Verdict) (a b : ℕ)
+pub bankAt-bad : (f : List ℕ) (t p : ℕ) (v : Validity) (a b : ℕ)
     → v ≡ unless (eqb (banksPlace f + num f t 4) p) 10 t then bankHead f p → v ≡ Refused a b → v ≡ bankAt f t p
 bankAt-bad f t p v a b e g =
     g
@@ -59,14 +59,14 @@ bankAt-bad f t p v a b e g =
     ∙ then-refused (unless (eqb (banksPlace f + num f t 4) p) 10 t then bankHead f p)
     (each (entryAt f) (entryCount f p) 2 (p + 34)) a b (sym e ∙ g))
 
-pub bankAt-rest : (f : List ℕ) (t p : ℕ) (v r : Verdict)
-    → v ≡ unless (eqb (banksPlace f + num f t 4) p) 10 t then bankHead f p → v ≡ Good
+pub bankAt-rest : (f : List ℕ) (t p : ℕ) (v r : Validity)
+    → v ≡ unless (eqb (banksPlace f + num f t 4) p) 10 t then bankHead f p → v ≡ Valid
     → r ≡ each (entryAt f) (entryCount f p) 2 (p + 34) → r ≡ bankAt f t p
 bankAt-rest f t p v r e g d =
     d
     ∙ sym
     (bankAt-split f t p
-    ∙ good-then (unless (eqb (banksPlace f + num f t 4) p) 10 t then bankHead f p)
+    ∙ valid-then (unless (eqb (banksPlace f + num f t 4) p) 10 t then bankHead f p)
     (each (entryAt f) (entryCount f p) 2 (p + 34)) (sym e ∙ g))
 
 -- ---- the walk over the banks
@@ -86,16 +86,16 @@ banks-step f n i t p h =
     let e : n - i ≡ suc (n - (i + 1)) = omega arith in
     rw e (banks-suc f (n - (i + 1)) t p)
 
--- the loop: what is left from the i-th bank on, at p with its offset at t, answers for all; v is that bank's verdict
-pub banks-next : (f : List ℕ) (n i t p : ℕ) (all v : Verdict) (q : ℕ) → i < n → all ≡ banksFrom f (n - i) t p → v ≡ bankAt f t p
-    → v ≡ Good → q ≡ nextBank f p → all ≡ banksFrom f (n - (i + 1)) (t + 4) q
+-- the loop: what is left from the i-th bank on, at p with its offset at t, answers for all; v is that bank's validity
+pub banks-next : (f : List ℕ) (n i t p : ℕ) (all v : Validity) (q : ℕ) → i < n → all ≡ banksFrom f (n - i) t p → v ≡ bankAt f t p
+    → v ≡ Valid → q ≡ nextBank f p → all ≡ banksFrom f (n - (i + 1)) (t + 4) q
 banks-next f n i t p all v q h e b g d =
     e
     ∙ banks-step f n i t p h
-    ∙ good-then (bankAt f t p) (banksFrom f (n - (i + 1)) (t + 4) (nextBank f p)) (sym b ∙ g)
+    ∙ valid-then (bankAt f t p) (banksFrom f (n - (i + 1)) (t + 4) (nextBank f p)) (sym b ∙ g)
     ∙ rw d
 
-pub banks-bad : (f : List ℕ) (n i t p : ℕ) (all v : Verdict) (a b : ℕ) → i < n → all ≡ banksFrom f (n - i) t p → v ≡ bankAt f t p
+pub banks-bad : (f : List ℕ) (n i t p : ℕ) (all v : Validity) (a b : ℕ) → i < n → all ≡ banksFrom f (n - i) t p → v ≡ bankAt f t p
     → v ≡ Refused a b → v ≡ all
 banks-bad f n i t p all v a b h e d g =
     g
@@ -104,7 +104,7 @@ banks-bad f n i t p all v a b h e d g =
     ∙ banks-step f n i t p h
     ∙ then-refused (bankAt f t p) (banksFrom f (n - (i + 1)) (t + 4) (nextBank f p)) a b (sym d ∙ g))
 
-pub banks-done : (f : List ℕ) (n i t p : ℕ) (all v : Verdict) → n ≤ i → all ≡ banksFrom f (n - i) t p
+pub banks-done : (f : List ℕ) (n i t p : ℕ) (all v : Validity) → n ≤ i → all ≡ banksFrom f (n - i) t p
     → v ≡ unless (leb (length f) p) 12 p → v ≡ all
 banks-done f n i t p all v h e d =
     let z : n - i ≡ 0 = omega arith in
@@ -112,14 +112,14 @@ banks-done f n i t p all v h e d =
 
 -- ---- what an accepted header gives
 
-pub header-length : (f : List ℕ) → headerRule f ≡ Good → 88 ≤ length f
+pub header-length : (f : List ℕ) → headerRule f ≡ Valid → 88 ≤ length f
 unfolding headerRule
 header-length f h =
-    let a = then-good _ _ h .1 in
-    let b = then-good _ _ a .1 in
-    let d = then-good _ _ b .1 in
-    let e = then-good _ _ d .1 in
-    field-good (length f) 0 86 2 7 true e .0
+    let a = then-valid _ _ h .1 in
+    let b = then-valid _ _ a .1 in
+    let d = then-valid _ _ b .1 in
+    let e = then-valid _ _ d .1 in
+    field-valid (length f) 0 86 2 7 true e .0
 
 -- the counts are numbers of two bytes
 pub contactCount-lt : (f : List ℕ) → AllBytes f → contactCount f < 65536
@@ -144,80 +144,80 @@ pub offset-walks : (f : List ℕ) (n : ℕ) → offsetPlace f 0 + n * 4 ≡ offs
 unfolding offsetPlace
 offset-walks f n = omega arith
 
-pub offset-good : (f : List ℕ) (n : ℕ) → offsetsRule f ≡ Good → n < bankCount f → offsetAt f (offsetPlace f n) ≡ Good
+pub offset-valid : (f : List ℕ) (n : ℕ) → offsetsRule f ≡ Valid → n < bankCount f → offsetAt f (offsetPlace f n) ≡ Valid
 unfolding offsetsRule
-offset-good f n h g =
-    ap (λ (p : ℕ). offsetAt f p) (sym (offset-walks f n)) ∙ each-good (offsetAt f) (bankCount f) 4 (offsetPlace f 0) h n g
+offset-valid f n h g =
+    ap (λ (p : ℕ). offsetAt f p) (sym (offset-walks f n)) ∙ each-valid (offsetAt f) (bankCount f) 4 (offsetPlace f 0) h n g
 
-pub offset-inside : (f : List ℕ) (p : ℕ) → offsetAt f p ≡ Good → p + 4 ≤ length f
-offset-inside f p h = part-inside f p 4 (omega arith) (field-good (length (part f p 4)) p 0 4 7 true h .0)
+pub offset-inside : (f : List ℕ) (p : ℕ) → offsetAt f p ≡ Valid → p + 4 ≤ length f
+offset-inside f p h = part-inside f p 4 (omega arith) (field-valid (length (part f p 4)) p 0 4 7 true h .0)
 
 -- ---- what accepted banks give
 
 -- bank n after the one at p, whose offset stands at t
-bank-of : (f : List ℕ) (m n t p : ℕ) → banksFrom f m t p ≡ Good → n < m → bankAt f (t + n * 4) (bankFrom f n p) ≡ Good
+bank-of : (f : List ℕ) (m n t p : ℕ) → banksFrom f m t p ≡ Valid → n < m → bankAt f (t + n * 4) (bankFrom f n p) ≡ Valid
 unfolding banksFrom bankFrom
 bank-of f zero n t p h g = absurd (omega arith)
 bank-of f (suc m) zero t p h g =
     let e : t + 0 * 4 ≡ t = omega arith in
-    rw e (then-good (bankAt f t p) (banksFrom f m (t + 4) (nextBank f p)) h .0)
+    rw e (then-valid (bankAt f t p) (banksFrom f m (t + 4) (nextBank f p)) h .0)
 bank-of f (suc m) (suc n) t p h g =
     let e : t + suc n * 4 ≡ t + 4 + n * 4 = omega arith in
     rw e
-    (bank-of f m n (t + 4) (nextBank f p) (then-good (bankAt f t p) (banksFrom f m (t + 4) (nextBank f p)) h .1) (omega arith))
+    (bank-of f m n (t + 4) (nextBank f p) (then-valid (bankAt f t p) (banksFrom f m (t + 4) (nextBank f p)) h .1) (omega arith))
 
-pub bank-judged : (f : List ℕ) (n : ℕ) → banksRule f ≡ Good → n < bankCount f → bankAt f (offsetPlace f n) (bankPlace f n) ≡ Good
+pub bank-validated : (f : List ℕ) (n : ℕ) → banksRule f ≡ Valid → n < bankCount f → bankAt f (offsetPlace f n) (bankPlace f n) ≡ Valid
 unfolding banksRule bankPlace
-bank-judged f n h g =
+bank-validated f n h g =
     ap (λ (t : ℕ). bankAt f t (bankFrom f n (banksPlace f))) (sym (offset-walks f n))
     ∙ bank-of f (bankCount f) n (offsetPlace f 0) (banksPlace f) h g
 
--- the three parts of a bank's verdict
-bankAt-good : (f : List ℕ) (t p : ℕ) → bankAt f t p ≡ Good
-    → (banksPlace f + num f t 4 ≡ p) × ((bankHead f p ≡ Good) × (each (entryAt f) (entryCount f p) 2 (p + 34) ≡ Good))
+-- the three parts of a bank's validity
+bankAt-valid : (f : List ℕ) (t p : ℕ) → bankAt f t p ≡ Valid
+    → (banksPlace f + num f t 4 ≡ p) × ((bankHead f p ≡ Valid) × (each (entryAt f) (entryCount f p) 2 (p + 34) ≡ Valid))
 unfolding bankAt
-bankAt-good f t p h =
+bankAt-valid f t p h =
     let entries = each (entryAt f) (entryCount f p) 2 (p + 34) in
-    let a = then-good (unless (eqb (banksPlace f + num f t 4) p) 10 t) (bankHead f p then entries) h in (
-      eqb-true (banksPlace f + num f t 4) p (unless-good (eqb (banksPlace f + num f t 4) p) 10 t (a .0)),
-      then-good (bankHead f p) entries (a .1),
+    let a = then-valid (unless (eqb (banksPlace f + num f t 4) p) 10 t) (bankHead f p then entries) h in (
+      eqb-true (banksPlace f + num f t 4) p (unless-valid (eqb (banksPlace f + num f t 4) p) 10 t (a .0)),
+      then-valid (bankHead f p) entries (a .1),
     )
 
 -- the offset of bank n leads to where it starts by walking
-pub bank-leads : (f : List ℕ) (n : ℕ) → banksRule f ≡ Good → n < bankCount f
+pub bank-leads : (f : List ℕ) (n : ℕ) → banksRule f ≡ Valid → n < bankCount f
     → banksPlace f + num f (offsetPlace f n) 4 ≡ bankPlace f n
-bank-leads f n h g = bankAt-good f (offsetPlace f n) (bankPlace f n) (bank-judged f n h g) .0
+bank-leads f n h g = bankAt-valid f (offsetPlace f n) (bankPlace f n) (bank-validated f n h g) .0
 
-pub bank-good : (f : List ℕ) (n : ℕ) → banksRule f ≡ Good → n < bankCount f
-    → (bankHead f (bankPlace f n) ≡ Good)
-    × (each (entryAt f) (entryCount f (bankPlace f n)) 2 (bankPlace f n + 34) ≡ Good)
-bank-good f n h g = bankAt-good f (offsetPlace f n) (bankPlace f n) (bank-judged f n h g) .1
+pub bank-valid : (f : List ℕ) (n : ℕ) → banksRule f ≡ Valid → n < bankCount f
+    → (bankHead f (bankPlace f n) ≡ Valid)
+    × (each (entryAt f) (entryCount f (bankPlace f n)) 2 (bankPlace f n + 34) ≡ Valid)
+bank-valid f n h g = bankAt-valid f (offsetPlace f n) (bankPlace f n) (bank-validated f n h g) .1
 
-pub bank-head-length : (f : List ℕ) (p : ℕ) → bankHead f p ≡ Good → p + 34 ≤ length f
+pub bank-head-length : (f : List ℕ) (p : ℕ) → bankHead f p ≡ Valid → p + 34 ≤ length f
 unfolding bankHead
 bank-head-length f p h =
-    let a = then-good (field (part f p 34) p 0 32 5 (textOk (part f p 32))) (field (part f p 34) p 32 2 7 true) h .1 in
-    part-inside f p 34 (omega arith) (field-good (length (part f p 34)) p 32 2 7 true a .0)
+    let a = then-valid (field (part f p 34) p 0 32 5 (textOk (part f p 32))) (field (part f p 34) p 32 2 7 true) h .1 in
+    part-inside f p 34 (omega arith) (field-valid (length (part f p 34)) p 32 2 7 true a .0)
 
-pub entry-inside : (f : List ℕ) (p : ℕ) → entryAt f p ≡ Good → (p + 2 ≤ length f) × (num f p 2 < channelCount f)
+pub entry-inside : (f : List ℕ) (p : ℕ) → entryAt f p ≡ Valid → (p + 2 ≤ length f) × (num f p 2 < channelCount f)
 unfolding entryAt
 entry-inside f p h =
-    let a = field-good (length (part f p 2)) p 0 2 11 (ltb (num f p 2) (channelCount f)) h in
+    let a = field-valid (length (part f p 2)) p 0 2 11 (ltb (num f p 2) (channelCount f)) h in
     (part-inside f p 2 (omega arith) (a .0), ltb-true (num f p 2) (channelCount f) (a .1))
 
 -- entry i of a run from p on
-pub entry-good : (f : List ℕ) (n p i : ℕ) → each (entryAt f) n 2 p ≡ Good → i < n → num f (p + i * 2) 2 < channelCount f
-entry-good f n p i h g = entry-inside f (p + i * 2) (each-good (entryAt f) n 2 p h i g) .1
+pub entry-valid : (f : List ℕ) (n p i : ℕ) → each (entryAt f) n 2 p ≡ Valid → i < n → num f (p + i * 2) 2 < channelCount f
+entry-valid f n p i h g = entry-inside f (p + i * 2) (each-valid (entryAt f) n 2 p h i g) .1
 
-pub entries-inside : (f : List ℕ) (n p : ℕ) → p ≤ length f → each (entryAt f) n 2 p ≡ Good → p + n * 2 ≤ length f
+pub entries-inside : (f : List ℕ) (n p : ℕ) → p ≤ length f → each (entryAt f) n 2 p ≡ Valid → p + n * 2 ≤ length f
 entries-inside f zero p g h = omega arith
 entries-inside f (suc n) p g h =
-    omega (arith, entry-inside f (p + n * 2) (each-good (entryAt f) (suc n) 2 p h n (omega arith)) .0)
+    omega (arith, entry-inside f (p + n * 2) (each-valid (entryAt f) (suc n) 2 p h n (omega arith)) .0)
 
-pub bank-inside : (f : List ℕ) (n : ℕ) → banksRule f ≡ Good → n < bankCount f
+pub bank-inside : (f : List ℕ) (n : ℕ) → banksRule f ≡ Valid → n < bankCount f
     → bankPlace f n + 34 + entryCount f (bankPlace f n) * 2 ≤ length f
 bank-inside f n h g =
-    let a = bank-good f n h g in
+    let a = bank-valid f n h g in
     entries-inside f (entryCount f (bankPlace f n)) (bankPlace f n + 34) (bank-head-length f (bankPlace f n) (a .0)) (a .1)
 
 -- banks touch
@@ -235,17 +235,17 @@ unfolding bankPlace nextBank
 bank-next f n = bank-after f n (banksPlace f)
 
 -- the file ends with the last bank
-banks-reach : (f : List ℕ) (m t p : ℕ) → banksFrom f m t p ≡ Good → length f ≤ bankFrom f m p
+banks-reach : (f : List ℕ) (m t p : ℕ) → banksFrom f m t p ≡ Valid → length f ≤ bankFrom f m p
 unfolding banksFrom bankFrom
-banks-reach f zero t p h = leb-true (length f) p (unless-good (leb (length f) p) 12 p h)
+banks-reach f zero t p h = leb-true (length f) p (unless-valid (leb (length f) p) 12 p h)
 banks-reach f (suc m) t p h =
-    banks-reach f m (t + 4) (nextBank f p) (then-good (bankAt f t p) (banksFrom f m (t + 4) (nextBank f p)) h .1)
+    banks-reach f m (t + 4) (nextBank f p) (then-valid (bankAt f t p) (banksFrom f m (t + 4) (nextBank f p)) h .1)
 
-pub banks-end : (f : List ℕ) → banksRule f ≡ Good → length f ≤ bankPlace f (bankCount f)
+pub banks-end : (f : List ℕ) → banksRule f ≡ Valid → length f ≤ bankPlace f (bankCount f)
 unfolding banksRule bankPlace
 banks-end f h = banks-reach f (bankCount f) (offsetPlace f 0) (banksPlace f) h
 
-pub banks-end-is : (f : List ℕ) → banksRule f ≡ Good → banksPlace f ≤ length f → bankPlace f (bankCount f) ≡ length f
+pub banks-end-is : (f : List ℕ) → banksRule f ≡ Valid → banksPlace f ≤ length f → bankPlace f (bankCount f) ≡ length f
 banks-end-is f h g = by (bankCount f) refl
   where
     by : (m : ℕ) → bankCount f ≡ m → bankPlace f (bankCount f) ≡ length f

@@ -1,7 +1,7 @@
 // The layout of a file: counts, and where its parts stand (document 01, "The file").
 pub mod places; // places.rt: counts and places
 
-// Laid out as in C, for include/codeplug.h.
+// Laid out as in C, for bindings/c/include/codeplug.h.
 #[repr(C)]
 pub struct Counts {
     pub contacts: u16,

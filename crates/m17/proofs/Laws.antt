@@ -16,7 +16,7 @@ use Rattle.m17.specs.declared.Address.the-variants.{Callsign, Broadcast}
 use Rattle.m17.specs.declared.Encoded.the-variants as encoded
 use Rattle.m17.specs.declared.Decoded.the-variants as decoded
 use Rattle.fields.proofs.TableLaws.{every, below}
-use Rattle.m17.specs.Address.{broadcast, decoding, decodedBy, decodedInto, within, digitOf, foreign, charOf, addressOf, firstForeign, endsInSpace, encoding, isCallsign, addressOk, textUpTo, textFor, addressNumber, addressFor, addressGood}
+use Rattle.m17.specs.Address.{broadcast, decoding, decodedBy, decodedInto, within, digitOf, foreign, charOf, addressOf, firstForeign, endsInSpace, encoding, isCallsign, addressOk, textUpTo, textFor, addressNumber, addressFor, addressValid}
 
 split : (a b : ℕ) → (a ≤ b) ⊎ (b < a)
 split a b = go (leb a b) refl
@@ -163,11 +163,11 @@ foreign-at (c ∷ s) (suc i) h e = go (eqb (digitOf c) 40) (foreign-at s i (le-o
     go true l = omega arith
     go false l = omega arith
 
--- a turn from the last character down
-pub native-turn : (s : List ℕ) (i : ℕ) → 0 < i → i ≤ length s → (digitOf (getD s (i - 1) 0) ≡ 40 → ⊥) → firstForeign (drop i s) ≡ length (drop i s)
+-- an iteration from the last character down
+pub native-step : (s : List ℕ) (i : ℕ) → 0 < i → i ≤ length s → (digitOf (getD s (i - 1) 0) ≡ 40 → ⊥) → firstForeign (drop i s) ≡ length (drop i s)
     → firstForeign (drop (i - 1) s) ≡ length (drop (i - 1) s)
 unfolding foreign
-native-turn s i p l n e =
+native-step s i p l n e =
     let h : i - 1 < length s = omega arith in
     let k : suc (i - 1) ≡ i = omega arith in
     let d : drop (i - 1) s ≡ getD s (i - 1) 0 ∷ drop i s = rw k at (drop-cons s (i - 1) 0 h) in
@@ -193,13 +193,13 @@ address-below s k l e =
     let m : 40 ^ length s ≤ 40 ^ k = pow-le-pow-right (omega arith) l in
     omega arith
 
--- what the sum has before its last turn leaves room for a digit more
+-- what the sum has before its last iteration leaves room for a digit more
 pub address-room : (s : List ℕ) (i : ℕ) → length s ≤ 9 → 0 < i → firstForeign (drop i s) ≡ length (drop i s) → addressOf (drop i s) < 40 ^ 8
 address-room s i n p e = address-below (drop i s) 8 (simp length-drop (omega arith)) e
 
--- a turn of the sum, from the last character down
-pub address-turn : (s : List ℕ) (i : ℕ) → 0 < i → i ≤ length s → addressOf (drop (i - 1) s) ≡ addressOf (drop i s) * 40 + digitOf (getD s (i - 1) 0)
-address-turn s i p l =
+-- an iteration of the sum, from the last character down
+pub address-step : (s : List ℕ) (i : ℕ) → 0 < i → i ≤ length s → addressOf (drop (i - 1) s) ≡ addressOf (drop i s) * 40 + digitOf (getD s (i - 1) 0)
+address-step s i p l =
     let h : i - 1 < length s = omega arith in
     let e : suc (i - 1) ≡ i = omega arith in
     rw (drop-cons s (i - 1) 0 h, e) (unfold addressOf in omega arith)
@@ -316,16 +316,16 @@ ends-text (suc k) n h =
 -- ---- the text loop: what is written, and what is left to write
 
 module _ (n : ℕ) (bytes : List ℕ) (len rest : ℕ) (nine : length bytes ≡ 9) (low : len < 9) where
-  pub text-turn : 0 < rest → textFor n ≡ take len bytes ++ textUpTo (9 - len) rest
+  pub text-step : 0 < rest → textFor n ≡ take len bytes ++ textUpTo (9 - len) rest
       → textFor n ≡ take (len + 1) (set bytes len (charOf (rest % 40))) ++ textUpTo (9 - (len + 1)) (rest / 40)
-  text-turn p e =
+  text-step p e =
       let k : 9 - len ≡ suc (9 - (len + 1)) = omega arith in
       let h : len < length bytes = omega arith in
       let q : textUpTo (9 - len) rest ≡ charOf (rest % 40) ∷ textUpTo (9 - (len + 1)) (rest / 40) = rw k (text-cons (9 - (len + 1)) rest p) in
       rw (e, q, add-one, take-suc-set bytes len (charOf (rest % 40)) h, append-assoc)
 
-  pub zeros-turn : (a : ℕ) → drop len bytes ≡ replicate (9 - len) 0 → drop (len + 1) (set bytes len a) ≡ replicate (9 - (len + 1)) 0
-  zeros-turn a e =
+  pub zeros-step : (a : ℕ) → drop len bytes ≡ replicate (9 - len) 0 → drop (len + 1) (set bytes len a) ≡ replicate (9 - (len + 1)) 0
+  zeros-step a e =
       let k : 9 - len ≡ suc (9 - (len + 1)) = omega arith in
       let h : len < len + 1 = omega arith in
       rw (drop-set-lt (len + 1) bytes len a h, ← drop-drop 1 len bytes, e, k)
@@ -340,8 +340,8 @@ text-done n bytes len nine low a z =
 
 -- ---- the copy loop
 
-pub nine-turn : (x d s : List ℕ) (i : ℕ) → x ≡ take i s ++ drop i d → i < length s → length s ≤ length d → set x i (getD s i 0) ≡ take (i + 1) s ++ drop (i + 1) d
-nine-turn x d s i e h l =
+pub nine-step : (x d s : List ℕ) (i : ℕ) → x ≡ take i s ++ drop i d → i < length s → length s ≤ length d → set x i (getD s i 0) ≡ take (i + 1) s ++ drop (i + 1) d
+nine-step x d s i e h l =
     let k : 0 + i ≡ i = omega arith in
     let j : 0 + suc i ≡ suc i = omega arith in
     let b : 0 + i < length d = omega arith in
@@ -419,25 +419,25 @@ addressNumber-for n = go (eqb n broadcast) refl
 callsign-not-broadcast : (n : ℕ) → isCallsign n ≡ true → eqb n broadcast ≡ false
 callsign-not-broadcast n c = let r : (0 < n) × (n < 40 ^ 9) = callsign-range n c in ne-eqb n broadcast (omega arith)
 
-pub addressFor-number : (a : Address) → addressGood a ≡ true → addressFor (addressNumber a) ≡ a
-unfolding addressFor addressNumber addressGood
+pub addressFor-number : (a : Address) → addressValid a ≡ true → addressFor (addressNumber a) ≡ a
+unfolding addressFor addressNumber addressValid
 addressFor-number (Callsign n) g = rw (callsign-not-broadcast n g)
 addressFor-number Broadcast g = refl
 
-pub addressGood-for : (n : ℕ) → addressOk n ≡ true → addressGood (addressFor n) ≡ true
-unfolding addressOk addressFor addressGood
-addressGood-for n k = go (eqb n broadcast) k
+pub addressValid-for : (n : ℕ) → addressOk n ≡ true → addressValid (addressFor n) ≡ true
+unfolding addressOk addressFor addressValid
+addressValid-for n k = go (eqb n broadcast) k
   where
     or-false : (b : Bool) → (b || false) ≡ true → b ≡ true
     or-false true e = refl
     or-false false e = e
 
-    go : (b : Bool) → (isCallsign n || b) ≡ true → addressGood (cond b Broadcast (Callsign n)) ≡ true
+    go : (b : Bool) → (isCallsign n || b) ≡ true → addressValid (cond b Broadcast (Callsign n)) ≡ true
     go true e = refl
     go false e = or-false (isCallsign n) e
 
-pub addressOk-number : (a : Address) → addressGood a ≡ true → addressOk (addressNumber a) ≡ true
-unfolding addressOk addressNumber addressGood
+pub addressOk-number : (a : Address) → addressValid a ≡ true → addressOk (addressNumber a) ≡ true
+unfolding addressOk addressNumber addressValid
 addressOk-number (Callsign n) g = rw g
 addressOk-number Broadcast g = or-true (isCallsign broadcast)
   where
@@ -446,10 +446,10 @@ addressOk-number Broadcast g = or-true (isCallsign broadcast)
     or-true false = refl
 
 -- an address's number fits its six bytes
-pub addressNumber-lt : (a : Address) → addressGood a ≡ true → addressNumber a < 2 ^ 48
-unfolding addressNumber addressGood
+pub addressNumber-lt : (a : Address) → addressValid a ≡ true → addressNumber a < 2 ^ 48
+unfolding addressNumber addressValid
 addressNumber-lt (Callsign n) g = let r : (0 < n) × (n < 40 ^ 9) = callsign-range n g in omega arith
 addressNumber-lt Broadcast g = omega arith
 
 pub addressOk-lt : (n : ℕ) → addressOk n ≡ true → n < 2 ^ 48
-addressOk-lt n k = rw addressNumber-for at (addressNumber-lt (addressFor n) (addressGood-for n k))
+addressOk-lt n k = rw addressNumber-for at (addressNumber-lt (addressFor n) (addressValid-for n k))

@@ -14,7 +14,7 @@ use Rattle.m17.specs.Address.{within, addressOf, firstForeign, endsInSpa
 use Rattle.m17.proofs.Laws.{and-true, foreign-le, within-in, address-below, address-pos, address-of-text, text-of-address, native-text, text-length, text-some, ends-text, encoding-solid, callsign-range}
 
 -- what an accepted text is
-record Accepted (s : List ℕ) (n : ℕ) : Type 0 where
+record EncodedText (s : List ℕ) (n : ℕ) : Type 0 where
   some : 0 < length s
   few : length s ≤ 9
   native : firstForeign s ≡ length s
@@ -30,9 +30,9 @@ not-false : (b : Bool) → not b ≡ false → b ≡ true
 not-false true e = refl
 not-false false e = sym e
 
-accepted : (s : List ℕ) (n : ℕ) → encoding s ≡ Number n → Accepted s n
+encoded-text : (s : List ℕ) (n : ℕ) → encoding s ≡ Number n → EncodedText s n
 unfolding encoding within
-accepted s n e =
+encoded-text s n e =
     let a = past (not (leb 1 (length s) && leb (length s) 9)) 20 0 _ n e in
     let b = past (ltb (firstForeign s) (length s)) 21 (firstForeign s) _ n (a .1) in
     let d = past (endsInSpace s) 22 0 _ n (b .1) in
@@ -51,14 +51,14 @@ accepted s n e =
 pub text-returns : (s : List ℕ) (n : ℕ) → encoding s ≡ Number n → textFor n ≡ s
 unfolding textFor
 text-returns s n e =
-    let a : Accepted s n = accepted s n e in
+    let a : EncodedText s n = encoded-text s n e in
     rw (← a .its) (text-of-address 9 s (a .few) (a .native) (a .solid))
 
 -- and its number is a callsign's
 pub number-is-callsign : (s : List ℕ) (n : ℕ) → encoding s ≡ Number n → isCallsign n ≡ true
 unfolding isCallsign
 number-is-callsign s n e =
-    let a : Accepted s n = accepted s n e in
+    let a : EncodedText s n = encoded-text s n e in
     let p : 0 < addressOf s = address-pos s (a .some) (a .native) (a .solid) in
     let h : addressOf s < 40 ^ 9 = address-below s 9 (a .few) (a .native) in
     rw (← a .its) (within-in 1 262_143_999_999_999 (addressOf s) p (omega arith))

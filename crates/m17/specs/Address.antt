@@ -121,6 +121,6 @@ isBroadcast (Callsign n) = false
 isBroadcast Broadcast = true
 
 -- a callsign's number that is one
-unfoldable pub addressGood : Address → Bool
-addressGood (Callsign n) = isCallsign n
-addressGood Broadcast = true
+unfoldable pub addressValid : Address → Bool
+addressValid (Callsign n) = isCallsign n
+addressValid Broadcast = true

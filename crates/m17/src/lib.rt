@@ -1,6 +1,6 @@
 // M17 addresses: which numbers are addresses, and what they mean (document 01, "M17 addresses").
 ghost use mathlib.Core.Path.{_≡_};
-ghost use Rattle.m17.specs.Address.{addressOk, addressFor, addressNumber, addressGood, isBroadcast, isCallsign};
+ghost use Rattle.m17.specs.Address.{addressOk, addressFor, addressNumber, addressValid, isBroadcast, isCallsign};
 
 // What an address field of a contact means.
 pub enum Address {
@@ -39,7 +39,7 @@ pub fn address_ok(n: u64) -> bool
     is_callsign(n) || n == BROADCAST
 }
 
-// The address that a good number means.
+// The address that a valid number means.
 pub fn address_for(n: u64) -> Address
     ensures { λ r. ⌜ r ≡ addressFor n ⌝ }
 {
@@ -69,8 +69,8 @@ pub fn is_broadcast(a: Address) -> bool
 }
 
 // Whether a contact may hold this address: a callsign's number is one.
-pub fn address_good(a: Address) -> bool
-    ensures { λ r. ⌜ r ≡ addressGood a ⌝ }
+pub fn address_valid(a: Address) -> bool
+    ensures { λ r. ⌜ r ≡ addressValid a ⌝ }
 {
     match a {
         Address::Callsign(n) => is_callsign(n),

@@ -7,7 +7,7 @@ use lib.ListN.{length, length-append, length-drop}
 use lib.Seq.{length-take-le}
 use Rattle.fields.specs.Bytes.{littleBytes}
 use Rattle.fields.proofs.Laws.{AllBytes, length-over, length-littleBytes}
-use Rattle.moves.specs.Cut.{cut}
+use Rattle.buffers.specs.Cut.{cut}
 use Rattle.layout.specs.Places.{channelCount, bankCount, channelPlace, banksPlace}
 use Rattle.layout.specs.Banks.{bankFrom}
 use Rattle.renumber.specs.Shift.{growthOf}

@@ -10,9 +10,9 @@ use lib.Dec.{leb}
 use borrow.Author.Tests.{leb-true, leb-false}
 use Rattle.fields.specs.Bytes.{part, over, zeros, littleBytes}
 use Rattle.fields.proofs.Laws.{AllBytes, bytes-take, length-over, length-zeros, zeros-append, length-littleBytes}
-use Rattle.moves.specs.Cut.{cut}
-use Rattle.moves.specs.Splice.{spliced}
-use Rattle.moves.proofs.Laws.{spliced-whole, spliced-of, spliced-content}
+use Rattle.buffers.specs.Cut.{cut}
+use Rattle.buffers.specs.Splice.{spliced}
+use Rattle.buffers.proofs.Laws.{spliced-whole, spliced-of, spliced-content}
 use Rattle.journal.specs.Machine.{holding}
 use Rattle.journal.proofs.StepLaws.{take-holding, length-holding}
 use Rattle.layout.specs.Places.{channelCount, bankCount, channelPlace, banksPlace}
@@ -296,32 +296,32 @@ counted-room c r d len end s f l h i =
     let m = length-counted c r s (f .before) (omega arith) in
     (h, omega arith)
 
-module _ (p : Plan) (r : List ℕ) (len : ℕ) (d : List ℕ) (asked : PlanHasRoom p r len d) where
-  pub contacts-asked : (s : Shift) (c : Counted) → p ≡ plan.Contacts s c → Fits (plan.Contacts s c) r (take len d) × HasRoom c r len d
+module _ (p : Plan) (r : List ℕ) (len : ℕ) (d : List ℕ) (has-room : PlanHasRoom p r len d) where
+  pub contacts-has-room : (s : Shift) (c : Counted) → p ≡ plan.Contacts s c → Fits (plan.Contacts s c) r (take len d) × HasRoom c r len d
   unfolding Fits planned
-  contacts-asked s c e =
-      let a : PlanHasRoom (plan.Contacts s c) r len d = rw e at asked in
+  contacts-has-room s c e =
+      let a : PlanHasRoom (plan.Contacts s c) r len d = rw e at has-room in
       (a .0, counted-room c r d len _ _ (a .0 .0) (length-contactsFollow (shiftOf s) (take len d) (a .0 .1 .0)) (a .1 .0 .0) (a .1 .1))
 
-  pub channels-asked : (s : Shift) (c : Counted) → p ≡ plan.Channels s c → AllBytes d
+  pub channels-has-room : (s : Shift) (c : Counted) → p ≡ plan.Channels s c → AllBytes d
       → Fits (plan.Channels s c) r (take len d) × (HasRoom c r len d × (len < 2 ^ 32))
   unfolding Fits planned
-  channels-asked s c e b =
-      let a : PlanHasRoom (plan.Channels s c) r len d = rw e at asked in
+  channels-has-room s c e b =
+      let a : PlanHasRoom (plan.Channels s c) r len d = rw e at has-room in
       let l = length-entriesFollow (shiftOf s) (take len d) (bytes-take len d b) (a .0 .1 .0) in
       (a .0, (counted-room c r d len _ _ (a .0 .0) l (a .1 .0 .0) (a .1 .1), a .1 .0 .1))
 
-  pub entries-asked : (t : Table) (c : Counted) → p ≡ plan.Entries t c → Fits (plan.Entries t c) r (take len d) × HasRoom c r len d
+  pub entries-has-room : (t : Table) (c : Counted) → p ≡ plan.Entries t c → Fits (plan.Entries t c) r (take len d) × HasRoom c r len d
   unfolding Fits planned
-  entries-asked t c e =
-      let a : PlanHasRoom (plan.Entries t c) r len d = rw e at asked in
+  entries-has-room t c e =
+      let a : PlanHasRoom (plan.Entries t c) r len d = rw e at has-room in
       (a .0, counted-room c r d len _ _ (a .0 .0) (length-tableMoved t (take len d) (omega arith)) (a .1 .0 .0) (a .1 .1))
 
-  pub bank-asked : (t : Table) (at offset : ℕ) (c : Counted) → p ≡ plan.AddBank t at offset c
+  pub bank-has-room : (t : Table) (at offset : ℕ) (c : Counted) → p ≡ plan.AddBank t at offset c
       → Fits (plan.AddBank t at offset c) r (take len d) × (len + 38 ≤ length d)
   unfolding Fits planned
-  bank-asked t at offset c e =
-      let a : PlanHasRoom (plan.AddBank t at offset c) r len d = rw e at asked in
+  bank-has-room t at offset c e =
+      let a : PlanHasRoom (plan.AddBank t at offset c) r len d = rw e at has-room in
       let f = take len d in
       let l = length-take-le len d (a .1 .0 .0) in
       let b = length-bank r (omega arith) in
@@ -331,23 +331,23 @@ module _ (p : Plan) (r : List ℕ) (len : ℕ) (d : List ℕ) (asked : PlanHasRo
       let o = length-counted c (littleBytes 4 offset) (cut (tableMoved t f) at 0 (r ++ zeros 2)) (a .0 .0 .before) (omega arith) in
       (a .0, omega arith)
 
-  pub drop-asked : (t : Table) (b : Block) (c : Counted) → p ≡ plan.DropBank t b c
+  pub drop-has-room : (t : Table) (b : Block) (c : Counted) → p ≡ plan.DropBank t b c
       → Fits (plan.DropBank t b c) r (take len d) × (len ≤ length d)
-  drop-asked t b c e =
-      let a : PlanHasRoom (plan.DropBank t b c) r len d = rw e at asked in
+  drop-has-room t b c e =
+      let a : PlanHasRoom (plan.DropBank t b c) r len d = rw e at has-room in
       (a .0, a .1 .0 .0)
 
-  pub replace-asked : (at : ℕ) → p ≡ plan.Replace at → at + length r ≤ length d
+  pub replace-has-room : (at : ℕ) → p ≡ plan.Replace at → at + length r ≤ length d
   unfolding Fits
-  replace-asked at e =
-      let a : PlanHasRoom (plan.Replace at) r len d = rw e at asked in
+  replace-has-room at e =
+      let a : PlanHasRoom (plan.Replace at) r len d = rw e at has-room in
       let l = length-take-le len d (a .1 .0 .0) in
       omega arith
 
   pub replaced : (at : ℕ) (x : List ℕ) → p ≡ plan.Replace at → x ≡ over d at r → x ≡ holding d len (planned p r (take len d))
   unfolding Fits planned
   replaced at x e f =
-      let a : PlanHasRoom (plan.Replace at) r len d = rw e at asked in
+      let a : PlanHasRoom (plan.Replace at) r len d = rw e at has-room in
       let l = length-take-le len d (a .1 .0 .0) in
       let h : d ≡ holding d len (take len d) = sym (take-append-drop len d) ∙ lent-holding d len (take len d) l in
       f ∙ (ap (λ (y : List ℕ). over y at r) h ∙ rw e (over-holding d len (take len d) at r (a .0)))

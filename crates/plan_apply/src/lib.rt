@@ -1,4 +1,5 @@
 // A change made in place: indexes or offsets first, then the cuts, then the count.
+use buffers::splicing::splice;
 use fields::put::put;
 use fields::put::put_le16;
 use format::sizes::BANK_HEAD_SIZE;
@@ -6,7 +7,6 @@ use layout::places::bank_count;
 use layout::places::banks_place;
 use layout::places::channel_count;
 use layout::places::channel_place;
-use moves::splicing::splice;
 use plan::Block;
 use plan::Counted;
 use plan::Plan;

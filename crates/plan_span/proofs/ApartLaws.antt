@@ -11,12 +11,12 @@ use lib.Dec.{eqb, leb, ltb}
 use borrow.Author.Tests.{eqb-true, eqb-false}
 use Rattle.fields.specs.Bytes.{part, num}
 use Rattle.fields.proofs.Laws.{part-add, part-cons, num-two, AllBytes}
-use Rattle.affixes.specs.Common.{commonStart, commonEnd}
-use Rattle.affixes.proofs.Laws.{commonStart-same, commonStart-differ}
+use Rattle.affixes.specs.Common.{commonPrefix, commonSuffix}
+use Rattle.affixes.proofs.Laws.{commonPrefix-same, commonPrefix-differ}
 use Rattle.journal.specs.Change.{entryOf}
 use Rattle.journal.specs.Span.{spanOf}
 use Rattle.journal.specs.declared.recording.Span.{Span}
-use Rattle.plug.specs.Edits.{raised, lowered}
+use Rattle.model.specs.Edits.{raised, lowered}
 use Rattle.renumber.specs.Shift.{shiftOf}
 use Rattle.renumber_last.specs.Last.{Apart}
 use Rattle.renumber.specs.declared.shift.Shift.{Shift}
@@ -25,7 +25,7 @@ use Rattle.plan.specs.declared.Counted.{Counted}
 use Rattle.plan.specs.Plan.{counted}
 use Rattle.plan.specs.Fits.{CountedFits}
 use Rattle.plan_suffix.specs.Suffix.{between, countedPieces}
-use Rattle.plan_span.specs.Measure.{apartTail, apartSpan}
+use Rattle.plan_span.specs.Measure.{apartSuffix, apartSpan}
 use Rattle.plan_span.proofs.MeasureLaws.{Measured, counted-measured, cut-part}
 
 -- ---- an index moves by one, so that its low byte changes
@@ -57,12 +57,12 @@ two-bytes f l h =
     let i : suc l < length f = omega arith in
     part-cons f l 1 (omega arith) ∙ ap (λ (m : List ℕ). getD f l 0 ∷ m) (part-cons f (suc l) 0 i ∙ rw e)
 
-two-test : (a b u v : ℕ) (p q : List ℕ) (t : Bool) → eqb b v ≡ t → (a ≡ u → ⊥) → commonStart (b ∷ a ∷ p) (v ∷ u ∷ q) ≡ cond (eqb b v) 1 0
-two-test a b u v p q true e d = commonStart-same b v (a ∷ p) (u ∷ q) (eqb-true b v e) ∙ rw (commonStart-differ a u p q d, e)
-two-test a b u v p q false e d = commonStart-differ b v (a ∷ p) (u ∷ q) (eqb-false b v e) ∙ rw e
+two-test : (a b u v : ℕ) (p q : List ℕ) (t : Bool) → eqb b v ≡ t → (a ≡ u → ⊥) → commonPrefix (b ∷ a ∷ p) (v ∷ u ∷ q) ≡ cond (eqb b v) 1 0
+two-test a b u v p q true e d = commonPrefix-same b v (a ∷ p) (u ∷ q) (eqb-true b v e) ∙ rw (commonPrefix-differ a u p q d, e)
+two-test a b u v p q false e d = commonPrefix-differ b v (a ∷ p) (u ∷ q) (eqb-false b v e) ∙ rw e
 
-end-two : (p q : List ℕ) (a b u v : ℕ) → (a ≡ u → ⊥) → commonEnd (p ++ (a ∷ b ∷ [])) (q ++ (u ∷ v ∷ [])) ≡ cond (eqb b v) 1 0
-unfolding commonEnd
+end-two : (p q : List ℕ) (a b u v : ℕ) → (a ≡ u → ⊥) → commonSuffix (p ++ (a ∷ b ∷ [])) (q ++ (u ∷ v ∷ [])) ≡ cond (eqb b v) 1 0
+unfolding commonSuffix
 end-two p q a b u v d =
     rw (reverse-append p (a ∷ b ∷ []), reverse-append q (u ∷ v ∷ [])) (two-test a b u v (reverse p) (reverse q) (eqb b v) refl d)
 
@@ -95,11 +95,11 @@ apart-change s c r f h from l x w a fits same long bytes ex ew =
     let new = countedPieces c (r ++ u) f in
     let k : l + 2 - p ≡ l - p + 2 = omega arith in
     let j : p + (l - p) ≡ l = omega arith in
-    let e : commonEnd (between f p (l + 2)) (new ++ part h l 2) ≡ cond (eqb (getD f (l + 1) 0) (x / 256)) 1 0 =
+    let e : commonSuffix (between f p (l + 2)) (new ++ part h l 2) ≡ cond (eqb (getD f (l + 1) 0) (x / 256)) 1 0 =
     rw (k, part-add f p (l - p) 2, j, two-bytes f l i, two-bytes h l (omega arith), ← hi)
     (end-two (part f p (l - p)) new (getD f l 0) (getD f (l + 1) 0) (getD h l 0) (getD h (l + 1) 0) low)
     in
-    let m : Measured f (counted c r h) p (apartTail f l x) (length f - c .gone + length r) =
+    let m : Measured f (counted c r h) p (apartSuffix f l x) (length f - c .gone + length r) =
     rw long at (counted-measured c r f h (u ++ part h l 2) (new ++ part h l 2) (l + 2) from _ fits (omega arith) i eh (simp append-assoc) (sym e))
     in
     m .span w ew

@@ -2,4 +2,4 @@
 pub mod MeasureLaws
 pub mod ApartLaws
 pub mod TableLaws
-pub mod FollowLaws
+pub mod RenumberedLaws

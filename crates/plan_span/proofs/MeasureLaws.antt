@@ -7,11 +7,11 @@ use lib.ListN.{length, getD, take, drop, length-append, length-drop, take-append
 use lib.Seq.{take-take, take-all, take-add, length-take-le, drop-at, drop-drop, drop-length, getD-drop}
 use Rattle.fields.specs.Bytes.{part, over, littleBytes}
 use Rattle.fields.proofs.Laws.{length-part, length-littleBytes, length-over, getD-part, part-part, part-add}
-use Rattle.affixes.specs.Common.{commonStart, commonEnd}
-use Rattle.affixes.proofs.Laws.{commonStart-append, commonStart-differ, commonStart-self, commonStart-right, commonStart-stops}
-use Rattle.affixes.proofs.Laws.{take-commonStart, commonEnd-append, commonEnd-left, commonEnd-right}
-use Rattle.moves.proofs.SeamLaws.{cut-over}
-use Rattle.journal.specs.Change.{entryOf, tailOf}
+use Rattle.affixes.specs.Common.{commonPrefix, commonSuffix}
+use Rattle.affixes.proofs.Laws.{commonPrefix-append, commonPrefix-differ, commonPrefix-self, commonPrefix-right, commonPrefix-stops}
+use Rattle.affixes.proofs.Laws.{take-commonPrefix, commonSuffix-append, commonSuffix-left, commonSuffix-right}
+use Rattle.buffers.proofs.SeamLaws.{cut-over}
+use Rattle.journal.specs.Change.{entryOf, suffixLength}
 use Rattle.journal.specs.Span.{spanOf}
 use Rattle.journal.specs.declared.recording.Span.{Span}
 use Rattle.plan.specs.declared.Counted.{Counted}
@@ -32,23 +32,23 @@ measured-as e m s ee em = rw (ee, em) at s
 
 -- ---- two lists that agree before and behind x and y, which differ at once
 
-start-differ : (x y z : List ℕ) → 0 < length x → 0 < length y → (getD x 0 0 ≡ getD y 0 0 → ⊥) → commonStart (x ++ z) (y ++ z) ≡ 0
+start-differ : (x y z : List ℕ) → 0 < length x → 0 < length y → (getD x 0 0 ≡ getD y 0 0 → ⊥) → commonPrefix (x ++ z) (y ++ z) ≡ 0
 start-differ [] y z lx ly d = absurd (omega arith)
 start-differ (u ∷ x) [] z lx ly d = absurd (omega arith)
-start-differ (u ∷ x) (v ∷ y) z lx ly d = commonStart-differ u v (x ++ z) (y ++ z) d
+start-differ (u ∷ x) (v ∷ y) z lx ly d = commonPrefix-differ u v (x ++ z) (y ++ z) d
 
 seam : (f new a x y z : List ℕ) (p n t : ℕ) → f ≡ a ++ (x ++ z) → new ≡ a ++ (y ++ z) → length a ≡ p → length new ≡ n → 0 < length x
-    → 0 < length y → (getD x 0 0 ≡ getD y 0 0 → ⊥) → t ≡ commonEnd x y → Measured f new p (length z + t) n
-unfolding tailOf spanOf entryOf
+    → 0 < length y → (getD x 0 0 ≡ getD y 0 0 → ⊥) → t ≡ commonSuffix x y → Measured f new p (length z + t) n
+unfolding suffixLength spanOf entryOf
 seam f new a x y z p n t ef en ea el lx ly d et =
-    let s : commonStart f new ≡ p =
-    rw (ef, en, commonStart-append a (x ++ z) (y ++ z), start-differ x y z lx ly d, ea) (omega arith)
+    let s : commonPrefix f new ≡ p =
+    rw (ef, en, commonPrefix-append a (x ++ z) (y ++ z), start-differ x y z lx ly d, ea) (omega arith)
     in
-    let e : commonEnd (drop p f) (drop p new) ≡ length z + t =
-    rw (ef, en, drop-at a (x ++ z) p ea, drop-at a (y ++ z) p ea, commonEnd-append x y z, et)
+    let e : commonSuffix (drop p f) (drop p new) ≡ length z + t =
+    rw (ef, en, drop-at a (x ++ z) p ea, drop-at a (y ++ z) p ea, commonSuffix-append x y z, et)
     in
-    let i = commonEnd-left x y in
-    let j = commonEnd-right x y in
+    let i = commonSuffix-left x y in
+    let j = commonSuffix-right x y in
     let l : length f ≡ p + (length x + length z) = rw (ef, length-append, length-append, ea) in
     let o : length new ≡ p + (length y + length z) = rw (en, length-append, length-append, ea) in
     let q : length (part f p (length f - (p + (length z + t)))) ≡ length f - (p + (length z + t)) =
@@ -69,7 +69,7 @@ part-first f p n h =
 -- ---- f and new agree before p and from j on, and differ at p; y is what new has between
 
 pub measured : (f new y : List ℕ) (p j n t : ℕ) → p < j → j ≤ length f → new ≡ take p f ++ (y ++ drop j f) → length new ≡ n
-    → 0 < length y → (getD f p 0 ≡ getD y 0 0 → ⊥) → t ≡ commonEnd (between f p j) y → Measured f new p (length f - j + t) n
+    → 0 < length y → (getD f p 0 ≡ getD y 0 0 → ⊥) → t ≡ commonSuffix (between f p j) y → Measured f new p (length f - j + t) n
 measured f new y p j n t h i en el ly d et =
     let ef : f ≡ take p f ++ (between f p j ++ drop j f) =
     sym (take-append-drop p f) ∙ ap (λ (l : List ℕ). take p f ++ l) (cut-part f p (j - p) j (omega arith))
@@ -83,27 +83,27 @@ measured f new y p j n t h i en el ly d et =
 
 -- nothing changes
 same-measured : (f new : List ℕ) → new ≡ f → Measured f new (length f) 0 (length f)
-unfolding spanOf entryOf tailOf commonEnd commonStart
+unfolding spanOf entryOf suffixLength commonSuffix commonPrefix
 same-measured f new e =
     let z : length f - (length f + 0) ≡ 0 = omega arith in
-    record { old-fits = omega arith; new-fits = omega arith; span = λ s h. h ∙ rw (e, commonStart-self f, drop-length f, z) }
+    record { old-fits = omega arith; new-fits = omega arith; span = λ s h. h ∙ rw (e, commonPrefix-self f, drop-length f, z) }
 
 -- r over the bytes at p, of which the first c are those of r; x is the code's reading of them
 pub record Replaced (f r : List ℕ) (p c : ℕ) (x : List ℕ) : Type 0 where
   pub old : c ≤ length x
   pub new : c ≤ length r
   pub same : c ≡ length r → Measured f (over f p r) (length f) 0 (length f)
-  pub differs : (c ≡ length r → ⊥) → (t : ℕ) → t ≡ commonEnd (part x c (length x - c)) (part r c (length r - c))
+  pub differs : (c ≡ length r → ⊥) → (t : ℕ) → t ≡ commonSuffix (part x c (length x - c)) (part r c (length r - c))
       → Measured f (over f p r) (p + c) (length f - (p + length r) + t) (length f)
 
-replaced-by : (f r : List ℕ) (p c : ℕ) → p + length r ≤ length f → c ≡ commonStart (part f p (length r)) r → Replaced f r p c (part f p (length r))
+replaced-by : (f r : List ℕ) (p c : ℕ) → p + length r ≤ length f → c ≡ commonPrefix (part f p (length r)) r → Replaced f r p c (part f p (length r))
 unfolding over
 replaced-by f r p c h ec =
     let n = length r in
     let x = part f p n in
     let lx : length x ≡ n = length-part f p n h in
-    let b = commonStart-right x r in
-    let t : take c x ≡ take c r = rw ec (take-commonStart x r) in
+    let b = commonPrefix-right x r in
+    let t : take c x ≡ take c r = rw ec (take-commonPrefix x r) in
     let u : take c x ≡ part f p c = take-take c n (drop p f) (omega arith) in
     let whole : f ≡ take p f ++ (x ++ drop (p + n) f) =
     sym (take-append-drop p f) ∙ ap (λ (l : List ℕ). take p f ++ l) (cut-part f p n (p + n) refl)
@@ -121,7 +121,7 @@ replaced-by f r p c h ec =
           let new : over f p r ≡ take (p + c) f ++ (drop c r ++ drop (p + n) f) =
           ap (λ (l : List ℕ). take p f ++ (l ++ drop (p + n) f)) w ∙ rw (take-add p c f) (simp append-assoc)
           in
-          let s : commonStart x r < length x → commonStart x r < length r → getD x c 0 ≡ getD r c 0 → ⊥ = rw ec (commonStart-stops x r) in
+          let s : commonPrefix x r < length x → commonPrefix x r < length r → getD x c 0 ≡ getD r c 0 → ⊥ = rw ec (commonPrefix-stops x r) in
           let m : p + n - (p + c) ≡ n - c = omega arith in
           let z : c + 0 ≡ c = omega arith in
           let ld = length-drop c r in
@@ -130,7 +130,7 @@ replaced-by f r p c h ec =
           (ek ∙ rw (lx, part-part f p n c (n - c) (omega arith), m, take-all (n - c) (drop c r) (omega arith)));
     }
 
-pub replaced : (f r : List ℕ) (p c : ℕ) → p + length r ≤ length f → c ≡ commonStart (between f p (p + length r)) r
+pub replaced : (f r : List ℕ) (p c : ℕ) → p + length r ≤ length f → c ≡ commonPrefix (between f p (p + length r)) r
     → Replaced f r p c (between f p (p + length r))
 replaced f r p c h ec =
     let z : p + length r - p ≡ length r = omega arith in
@@ -158,7 +158,7 @@ count-first x l = refl
 
 -- of g, which is f with z between the cut and j; y is the new bytes up to z's end
 pub counted-measured : (c : Counted) (r f g z y : List ℕ) (j end t : ℕ) → CountedFits c f end → c .at + c .gone ≤ j → j ≤ length f
-    → g ≡ take (c .at + c .gone) f ++ (z ++ drop j f) → y ≡ countedPieces c (r ++ z) f → t ≡ commonEnd (between f (c .counter) j) y
+    → g ≡ take (c .at + c .gone) f ++ (z ++ drop j f) → y ≡ countedPieces c (r ++ z) f → t ≡ commonSuffix (between f (c .counter) j) y
     → Measured f (counted c r g) (c .counter) (length f - j + t) (length g - c .gone + length r)
 unfolding counted
 counted-measured c r f g z y j end t fits hq hj eg ey et =
@@ -188,7 +188,7 @@ abbrev pub CountedMeasured : Counted → List ℕ → List ℕ → ℕ → Type 
 CountedMeasured c r f t = Measured f (counted c r f) (c .counter) (length f - (c .at + c .gone) + t) (length f - c .gone + length r)
 
 pub counted-alone : (c : Counted) (r f n : List ℕ) (t : ℕ) → CountedFits c f (length f) → n ≡ littleBytes 2 (c .count)
-    → t ≡ commonEnd (between f (c .counter) (c .at + c .gone)) (n ++ (between f (c .counter + 2) (c .at) ++ r)) → CountedMeasured c r f t
+    → t ≡ commonSuffix (between f (c .counter) (c .at + c .gone)) (n ++ (between f (c .counter + 2) (c .at) ++ r)) → CountedMeasured c r f t
 counted-alone c r f n t h en et =
     let q = c .at + c .gone in
     counted-measured c r f f [] (countedPieces c r f) q (length f) t h (omega arith) (h .inside) (sym (take-append-drop q f))

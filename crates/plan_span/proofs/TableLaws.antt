@@ -7,8 +7,8 @@ use lib.ListN.{length, getD, take, drop, length-append}
 use lib.Seq.{length-take-le}
 use Rattle.fields.specs.Bytes.{part, num, over, zeros, littleBytes}
 use Rattle.fields.proofs.Laws.{length-part, length-littleBytes, over-none}
-use Rattle.moves.specs.Cut.{cut}
-use Rattle.moves.proofs.SeamLaws.{cut-seam, cut-over}
+use Rattle.buffers.specs.Cut.{cut}
+use Rattle.buffers.proofs.SeamLaws.{cut-seam, cut-over}
 use Rattle.renumber.specs.Shift.{growthOf}
 use Rattle.renumber.specs.Moved.{offsetsMoved}
 use Rattle.renumber.proofs.Laws.{length-offsetsMoved}

@@ -12,8 +12,8 @@ abbrev pub spanFrom : ℕ → ℕ → ℕ → ℕ → Span
 spanFrom p tail old new = record { place = p; put = new - (p + tail); taken = old - (p + tail) }
 
 -- what agrees where the index at l is the last that moves, to x: its high byte may
-abbrev pub apartTail : List ℕ → ℕ → ℕ → ℕ
-apartTail f l x = length f - (l + 2) + cond (eqb (getD f (l + 1) 0) (x / 256)) 1 0
+abbrev pub apartSuffix : List ℕ → ℕ → ℕ → ℕ
+apartSuffix f l x = length f - (l + 2) + cond (eqb (getD f (l + 1) 0) (x / 256)) 1 0
 
 abbrev pub apartSpan : Counted → List ℕ → List ℕ → ℕ → ℕ → Span
-apartSpan c r f l x = spanFrom (c .counter) (apartTail f l x) (length f) (length f - c .gone + length r)
+apartSpan c r f l x = spanFrom (c .counter) (apartSuffix f l x) (length f) (length f - c .gone + length r)

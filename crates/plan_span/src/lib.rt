@@ -1,7 +1,7 @@
 // A change's place and lengths (document 01, "The history"), told before anything is written.
-use affixes::common_end;
-use affixes::common_start;
-use affixes::pieces::common_end3;
+use affixes::common_prefix;
+use affixes::common_suffix;
+use affixes::pieces::common_suffix3;
 use fields::numbers::le16;
 use journal::recording::Span;
 use layout::places::bank_count;
@@ -51,11 +51,11 @@ fn replace_span(f: &[u8], at: usize, r: &[u8]) -> Span
 {
     let n = r.len();
     let x = &f[at..at + n];
-    let c = common_start(x, r);
+    let c = common_prefix(x, r);
     if c == n {
         return span_from(f.len(), 0, f.len(), f.len());
     }
-    let tail = common_end(&x[c..], &r[c..]);
+    let tail = common_suffix(&x[c..], &r[c..]);
     span_from(at + c, f.len() - (at + n) + tail, f.len(), f.len())
 }
 
@@ -68,7 +68,7 @@ fn counted_span(f: &[u8], c: Counted, r: &[u8]) -> Span
     let at = c.at;
     let end = at + c.gone;
     let n = bytes16(c.count);
-    let tail = common_end3(&f[counter..end], &n, &f[counter + 2..at], r);
+    let tail = common_suffix3(&f[counter..end], &n, &f[counter + 2..at], r);
     span_from(
         counter,
         f.len() - end + tail,

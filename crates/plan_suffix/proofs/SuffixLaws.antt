@@ -9,8 +9,8 @@ use mir.Syntax.{w64}
 use mir.Val.{Fits}
 use Rattle.fields.specs.Bytes.{part, num, littleBytes}
 use Rattle.fields.proofs.Laws.{length-part, length-littleBytes}
-use Rattle.affixes.specs.Common.{commonEnd}
-use Rattle.affixes.proofs.Laws.{commonEnd-right}
+use Rattle.affixes.specs.Common.{commonSuffix}
+use Rattle.affixes.proofs.Laws.{commonSuffix-right}
 use Rattle.affixes.proofs.PieceLaws.{piece-stops, piece-goes, piece-left, piece-fits}
 use Rattle.renumber.specs.Moved.{offsetsMoved}
 use Rattle.plan.specs.declared.Counted.{Counted}
@@ -23,11 +23,11 @@ use Rattle.plan_suffix.specs.Suffix.{bankSuffix, EntriesInside, TableIns
 
 pub record Compared (s w a : List ℕ) (n e : ℕ) : Type 0 where
   pub room : e ≤ length s
-  pub stops : e < n → e ≡ commonEnd s w
-  pub fits : (r : ℕ) → r ≡ commonEnd (take (length s - e) s) a → e + r ≤ length s
-  pub goes : n ≤ e → (r : ℕ) → r ≡ commonEnd (take (length s - e) s) a → e + r ≡ commonEnd s w
+  pub stops : e < n → e ≡ commonSuffix s w
+  pub fits : (r : ℕ) → r ≡ commonSuffix (take (length s - e) s) a → e + r ≤ length s
+  pub goes : n ≤ e → (r : ℕ) → r ≡ commonSuffix (take (length s - e) s) a → e + r ≡ commonSuffix s w
 
-pub compared : (s w a b : List ℕ) (n e : ℕ) → w ≡ a ++ b → length b ≡ n → e ≡ commonEnd s b → Compared s w a n e
+pub compared : (s w a b : List ℕ) (n e : ℕ) → w ≡ a ++ b → length b ≡ n → e ≡ commonSuffix s b → Compared s w a n e
 compared s w a b n e ew lb eb =
     record {
       room = piece-left s b e eb;
@@ -49,21 +49,21 @@ offsets-last (suc n) g f p =
     rw e (ap (λ (l : List ℕ). littleBytes 4 (g (num f p 4)) ++ l) (offsets-last n g f (p + 4))
     ∙ sym (append-assoc (littleBytes 4 (g (num f p 4))) (offsetsMoved n g f (p + 4)) (littleBytes 4 (g (num f (p + 4 + n * 4) 4)))))
 
-pub suffix-none : (s w : List ℕ) → commonEnd s w ≡ 0 + commonEnd (take (length s - 0) s) w
+pub suffix-none : (s w : List ℕ) → commonSuffix s w ≡ 0 + commonSuffix (take (length s - 0) s) w
 suffix-none s w =
     let e : length s - 0 ≡ length s = omega arith in
     rw (e, take-length s) (omega arith)
 
 -- the last e bytes agree; i offsets are left, and of the last of them, x, k bytes agree
-pub record Turn (s w : List ℕ) (g : ℕ → ℕ) (f : List ℕ) (p i e k : ℕ) : Type 0 where
+pub record Iteration (s w : List ℕ) (g : ℕ → ℕ) (f : List ℕ) (p i e k : ℕ) : Type 0 where
   pub room : e + k ≤ length s
-  pub stops : k < 4 → e + k ≡ commonEnd s w
-  pub goes : 4 ≤ k → commonEnd s w ≡ e + k + commonEnd (take (length s - (e + k)) s) (offsetsMoved (i - 1) g f p)
+  pub stops : k < 4 → e + k ≡ commonSuffix s w
+  pub goes : 4 ≤ k → commonSuffix s w ≡ e + k + commonSuffix (take (length s - (e + k)) s) (offsetsMoved (i - 1) g f p)
 
-pub turn : (s w : List ℕ) (g : ℕ → ℕ) (f x : List ℕ) (p i e k : ℕ) → 0 < i → e ≤ length s
-    → commonEnd s w ≡ e + commonEnd (take (length s - e) s) (offsetsMoved i g f p)
-    → x ≡ littleBytes 4 (g (num f (p + (i - 1) * 4) 4)) → k ≡ commonEnd (take (length s - e) s) x → Turn s w g f p i e k
-turn s w g f x p i e k hi he inv ex ek =
+pub iteration : (s w : List ℕ) (g : ℕ → ℕ) (f x : List ℕ) (p i e k : ℕ) → 0 < i → e ≤ length s
+    → commonSuffix s w ≡ e + commonSuffix (take (length s - e) s) (offsetsMoved i g f p)
+    → x ≡ littleBytes 4 (g (num f (p + (i - 1) * 4) 4)) → k ≡ commonSuffix (take (length s - e) s) x → Iteration s w g f p i e k
+iteration s w g f x p i e k hi he inv ex ek =
     let t = take (length s - e) s in
     let a = offsetsMoved (i - 1) g f p in
     let j : suc (i - 1) ≡ i = omega arith in
@@ -77,16 +77,16 @@ turn s w g f x p i e k hi he inv ex ek =
     record {
       room = omega (arith, c .room);
       stops = λ h. omega (arith, c .stops h);
-      goes = λ h. omega (arith, c .goes h (commonEnd (take (length s - (e + k)) s) a) (rw m));
+      goes = λ h. omega (arith, c .goes h (commonSuffix (take (length s - (e + k)) s) a) (rw m));
     }
 
 pub suffix-done : (s w : List ℕ) (g : ℕ → ℕ) (f : List ℕ) (p i e : ℕ) → i ≤ 0
-    → commonEnd s w ≡ e + commonEnd (take (length s - e) s) (offsetsMoved i g f p) → e ≡ commonEnd s w
+    → commonSuffix s w ≡ e + commonSuffix (take (length s - e) s) (offsetsMoved i g f p) → e ≡ commonSuffix s w
 unfolding offsetsMoved
 suffix-done s w g f p i e z h =
     let k : i ≡ 0 = omega arith in
-    let j : commonEnd s w ≡ e + commonEnd (take (length s - e) s) (offsetsMoved 0 g f p) = rw k at h in
-    omega (arith, commonEnd-right (take (length s - e) s) [])
+    let j : commonSuffix s w ≡ e + commonSuffix (take (length s - e) s) (offsetsMoved 0 g f p) = rw k at h in
+    omega (arith, commonSuffix-right (take (length s - e) s) [])
 
 -- ---- the bytes of f from p up to q compared so
 
@@ -94,11 +94,11 @@ pub record Behind (f : List ℕ) (p q : ℕ) (w a : List ℕ) (n e : ℕ) : Type
   pub below : e ≤ q
   pub rest : p ≤ q - e
   pub inside : q - e ≤ length f
-  pub stops : e < n → e ≡ commonEnd (between f p q) w
-  pub fits : (r : ℕ) → r ≡ commonEnd (part f p (q - e - p)) a → e + r ≤ length f
-  pub goes : n ≤ e → (r : ℕ) → r ≡ commonEnd (part f p (q - e - p)) a → e + r ≡ commonEnd (between f p q) w
+  pub stops : e < n → e ≡ commonSuffix (between f p q) w
+  pub fits : (r : ℕ) → r ≡ commonSuffix (part f p (q - e - p)) a → e + r ≤ length f
+  pub goes : n ≤ e → (r : ℕ) → r ≡ commonSuffix (part f p (q - e - p)) a → e + r ≡ commonSuffix (between f p q) w
 
-behind : (f w a b : List ℕ) (p q n e : ℕ) → p ≤ q → q ≤ length f → w ≡ a ++ b → length b ≡ n → e ≡ commonEnd (between f p q) b
+behind : (f w a b : List ℕ) (p q n e : ℕ) → p ≤ q → q ≤ length f → w ≡ a ++ b → length b ≡ n → e ≡ commonSuffix (between f p q) b
     → Behind f p q w a n e
 behind f w a b p q n e h i ew lb eb =
     let c = compared (between f p q) w a b n e ew lb eb in
@@ -127,7 +127,7 @@ EntriesLeft t c r f e =
 
 pub entries-left : (t : Table) (c : Counted) (r f n : List ℕ) (e : ℕ) → EntriesInside t c (length f) → n ≡ littleBytes 2 (c .count)
     → e
-    ≡ commonEnd (between f (t .start) (c .at + c .gone))
+    ≡ commonSuffix (between f (t .start) (c .at + c .gone))
     (between f (tableEnd t) (c .counter) ++ (n ++ (between f (c .counter + 2) (c .at) ++ r)))
     → EntriesLeft t c r f e
 entries-left t c r f n e h en ee =
@@ -157,11 +157,11 @@ pub record BankLeft (t : Table) (k : Block) (c : Counted) (a b added f : List �
   pub stops : e < length a + length b → e ≡ bankSuffix t k c a b added f
   pub stops-2 : length a + length b ≤ e → e - (length a + length b) < k .at - tableEnd t → e ≡ bankSuffix t k c a b added f
   pub goes : length a + length b ≤ e → k .at - tableEnd t ≤ e - (length a + length b) → (r : ℕ)
-      → r ≡ commonEnd (part f (c .counter) (k .at + k .size - e - c .counter)) (tablePieces t c added f)
+      → r ≡ commonSuffix (part f (c .counter) (k .at + k .size - e - c .counter)) (tablePieces t c added f)
       → e + r ≡ bankSuffix t k c a b added f
 
 pub bank-left : (t : Table) (k : Block) (c : Counted) (a b added f : List ℕ) (e : ℕ) → BankInside t k c (length f)
-    → e ≡ commonEnd (between f (c .counter) (k .at + k .size)) (bankBehind t k a b f) → BankLeft t k c a b added f e
+    → e ≡ commonSuffix (between f (c .counter) (k .at + k .size)) (bankBehind t k a b f) → BankLeft t k c a b added f e
 bank-left t k c a b added f e h ee =
     let l : length (between f (tableEnd t) (k .at)) ≡ k .at - tableEnd t =
     length-part f (tableEnd t) (k .at - tableEnd t) (omega arith)

@@ -3,7 +3,7 @@
 use Prim.Native.Nat.{ℕ, _+_, _-_, _*_, _≤_, _<_}
 use mathlib.Core.List.{List, _++_}
 use Rattle.fields.specs.Bytes.{part, littleBytes}
-use Rattle.affixes.specs.Common.{commonEnd}
+use Rattle.affixes.specs.Common.{commonSuffix}
 use Rattle.renumber.specs.Shift.{growthOf}
 use Rattle.renumber.specs.Moved.{offsetsMoved}
 use Rattle.plan.specs.declared.Counted.{Counted}
@@ -52,11 +52,11 @@ bankPieces t k c a b added f = tablePieces t c added f ++ bankBehind t k a b f
 
 -- with f from the table's offsets up to the cut's end
 abbrev pub entriesSuffix : Table → Counted → List ℕ → List ℕ → ℕ
-entriesSuffix t c r f = commonEnd (between f (t .start) (c .at + c .gone)) (entriesPieces t c r f)
+entriesSuffix t c r f = commonSuffix (between f (t .start) (c .at + c .gone)) (entriesPieces t c r f)
 
 -- with f from the count up to the bank's end
 abbrev pub bankSuffix : Table → Block → Counted → List ℕ → List ℕ → List ℕ → List ℕ → ℕ
-bankSuffix t k c a b added f = commonEnd (between f (c .counter) (k .at + k .size)) (bankPieces t k c a b added f)
+bankSuffix t k c a b added f = commonSuffix (between f (c .counter) (k .at + k .size)) (bankPieces t k c a b added f)
 
 -- ---- where they stand in the first `end` bytes
 

@@ -1,7 +1,7 @@
 // How much agrees behind a change that moves offsets. The pieces of the new file are compared from the last one on.
-use affixes::common_end;
-use affixes::pieces::common_end3;
-use affixes::pieces::common_end4;
+use affixes::common_suffix;
+use affixes::pieces::common_suffix3;
+use affixes::pieces::common_suffix4;
 use fields::numbers::le32;
 use plan::Block;
 use plan::Counted;
@@ -12,14 +12,14 @@ use renumber::shift::grown;
 ghost use mathlib.Core.Path.{_≡_};
 ghost use Prim.Native.Nat.{_<_, _≤_};
 ghost use lib.ListN.{length};
-ghost use Rattle.affixes.specs.Common.{commonEnd};
+ghost use Rattle.affixes.specs.Common.{commonSuffix};
 ghost use Rattle.plan_suffix.specs.Suffix.{tableEnd, newOffsets, entriesSuffix, tablePieces, bankSuffix};
 ghost use Rattle.plan_suffix.specs.Suffix.{EntriesInside, TableInside, BankInside};
 
 // The common ending of s and the offsets of a table once they are moved.
-fn common_end_offsets(s: &[u8], f: &[u8], t: Table) -> usize
+fn common_suffix_offsets(s: &[u8], f: &[u8], t: Table) -> usize
     requires { ⌜ (tableEnd t ≤ length (now f)) × (t .many < 65536) ⌝ }
-    ensures { λ r. ⌜ r ≡ commonEnd (now (s .entry)) (newOffsets t (now (f .entry))) ⌝ }
+    ensures { λ r. ⌜ r ≡ commonSuffix (now (s .entry)) (newOffsets t (now (f .entry))) ⌝ }
 {
     let start = t.start;
     let growth = t.growth;
@@ -28,7 +28,7 @@ fn common_end_offsets(s: &[u8], f: &[u8], t: Table) -> usize
     while 0 < i {
         i -= 1;
         let x = bytes32(grown(le32(f, start + i * 4), growth));
-        let same = common_end(&s[..s.len() - e], &x);
+        let same = common_suffix(&s[..s.len() - e], &x);
         e += same;
         if same < 4 {
             return e;
@@ -48,7 +48,7 @@ pub fn entries_suffix(f: &[u8], t: Table, c: Counted, r: &[u8]) -> usize
     let at = c.at;
     let end = at + c.gone;
     let n = bytes16(c.count);
-    let e = common_end4(
+    let e = common_suffix4(
         &f[start..end],
         &f[after..counter],
         &n,
@@ -58,22 +58,22 @@ pub fn entries_suffix(f: &[u8], t: Table, c: Counted, r: &[u8]) -> usize
     if e < at - after + r.len() {
         return e;
     }
-    e + common_end_offsets(&f[start..end - e], f, t)
+    e + common_suffix_offsets(&f[start..end - e], f, t)
 }
 
 // What agrees of s and the new bytes up to the table's end: a count, records, `added`, offsets.
 fn table_suffix(s: &[u8], f: &[u8], t: Table, c: Counted, added: &[u8]) -> usize
     requires { ⌜ TableInside t c (length (now f)) ⌝ }
-    ensures { λ n. ⌜ n ≡ commonEnd (now (s .entry)) (tablePieces t c (now (added .entry)) (now (f .entry))) ⌝ }
+    ensures { λ n. ⌜ n ≡ commonSuffix (now (s .entry)) (tablePieces t c (now (added .entry)) (now (f .entry))) ⌝ }
 {
-    let e = common_end_offsets(s, f, t);
+    let e = common_suffix_offsets(s, f, t);
     if e < t.many * 4 {
         return e;
     }
     let counter = c.counter;
     let at = c.at;
     let n = bytes16(c.count);
-    e + common_end3(&s[..s.len() - e], &n, &f[counter + 2..at], added)
+    e + common_suffix3(&s[..s.len() - e], &n, &f[counter + 2..at], added)
 }
 
 // What agrees of f from the bank count up to a bank's end, and the new bytes there: those of `table_suffix`, banks, a and b.
@@ -93,7 +93,7 @@ pub fn bank_suffix(
     let counter = c.counter;
     let at = k.at;
     let end = at + k.size;
-    let e = common_end3(&f[counter..end], &f[after..at], a, b);
+    let e = common_suffix3(&f[counter..end], &f[after..at], a, b);
     let rest = a.len() + b.len();
     if e < rest {
         return e;

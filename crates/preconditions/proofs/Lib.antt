@@ -1,2 +1,2 @@
--- Laws of what both calls judge first.
-pub mod StandLaws
+-- Laws of what both calls validate first.
+pub mod PreconditionLaws

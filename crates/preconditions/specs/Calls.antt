@@ -3,16 +3,16 @@ use Prim.Native.Nat.{ℕ}
 use mathlib.Core.List.{List}
 use Rattle.journal.specs.Machine.{State, Outcome}
 use Rattle.journal.specs.declared.answer.Answer.{Answer}
-use Rattle.edits.specs.Setting.{Asked}
+use Rattle.edits.specs.Editing.{EditRequest}
 
 -- two buffers, each with the length of its content
-abbrev pub lent : List ℕ → ℕ → List ℕ → ℕ → State
-lent room len history used = record { room = room; length-in-room = len; history = history; length-in-history = used }
+abbrev pub stateOf : List ℕ → ℕ → List ℕ → ℕ → State
+stateOf room len history used = record { room = room; length-in-room = len; history = history; length-in-history = used }
 
 -- an answer, and the two buffers afterwards
-abbrev pub left : Answer → List ℕ → List ℕ → Outcome
-left answer room history = record { answer = answer; room = room; history = history }
+abbrev pub outcomeOf : Answer → List ℕ → List ℕ → Outcome
+outcomeOf answer room history = record { answer = answer; room = room; history = history }
 
 -- an edit as it is asked for
-abbrev pub asked : ℕ → ℕ → ℕ → List ℕ → Asked
-asked kind first second bytes = record { kind = kind; first = first; second = second; bytes = bytes }
+abbrev pub editRequest : ℕ → ℕ → ℕ → List ℕ → EditRequest
+editRequest kind first second bytes = record { kind = kind; first = first; second = second; bytes = bytes }

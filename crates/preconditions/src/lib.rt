@@ -1,34 +1,34 @@
-// What both calls judge first: 30, the codeplug's own refusal, 31.
-use fields::rule::Verdict;
+// What both calls validate first: 30, the codeplug's own refusal, 31.
+use fields::rule::Validity;
 use fields::rule::first;
 use format::refusals::BAD_HISTORY;
 use format::refusals::BAD_LENGTH;
 use journal::scan::HistoryRead;
-use journal::scan::entries_in;
-use validation::judge::verdict_on;
+use journal::scan::history_entries;
+use validation::validity_of;
 ghost use mathlib.Core.Path.{_≡_};
 ghost use Rattle.journal.specs.Entry.{entriesOf};
 ghost use Rattle.journal.specs.Machine.{wholeRule, buffersRule};
-ghost use Rattle.edits.specs.Setting.{editing};
-ghost use Rattle.preconditions.specs.Calls.{lent};
+ghost use Rattle.edits.specs.Editing.{editing};
+ghost use Rattle.preconditions.specs.Calls.{stateOf};
 
-fn whole_entries(h: &[u8]) -> Verdict
+fn whole_entries(h: &[u8]) -> Validity
     ensures { λ r. ⌜ r ≡ wholeRule (entriesOf (now (h .entry))) ⌝ }
 {
-    match entries_in(h) {
-        HistoryRead::Entries(_) => Verdict::Good,
-        HistoryRead::Broken => Verdict::Refused(BAD_HISTORY, 0),
+    match history_entries(h) {
+        HistoryRead::Entries(_) => Validity::Valid,
+        HistoryRead::Broken => Validity::Refused(BAD_HISTORY, 0),
     }
 }
 
-pub fn standing(room: &[u8], len: usize, history: &[u8], used: usize) -> Verdict
-    ensures { λ r. ⌜ r ≡ buffersRule editing (lent (now (room .entry)) len (now (history .entry)) used) ⌝ }
+pub fn check(room: &[u8], len: usize, history: &[u8], used: usize) -> Validity
+    ensures { λ r. ⌜ r ≡ buffersRule editing (stateOf (now (room .entry)) len (now (history .entry)) used) ⌝ }
 {
     if room.len() < len {
-        return Verdict::Refused(BAD_LENGTH, 0);
+        return Validity::Refused(BAD_LENGTH, 0);
     }
     if history.len() < used {
-        return Verdict::Refused(BAD_LENGTH, 0);
+        return Validity::Refused(BAD_LENGTH, 0);
     }
-    first(verdict_on(&room[..len]), whole_entries(&history[..used]))
+    first(validity_of(&room[..len]), whole_entries(&history[..used]))
 }

@@ -1,4 +1,4 @@
--- Laws of indexes and offsets moved in place: one index, one record, and a turn of a loop over a run of records.
+-- Laws of indexes and offsets moved in place: one index, one record, and an iteration of a loop over a run of records.
 use Prim.Native.Nat.{ℕ, zero, suc, _+_, _*_, _-_, _%_, _≤_, _<_}
 use mathlib.Core.Path.{_≡_, refl, ap, sym, _∙_}
 use mathlib.Core.Bool.{Bool, true, false, _&&_, not, cond}
@@ -12,12 +12,12 @@ use borrow.Author.Tests.{le-leb, lt-leb, lt-ltb, le-ltb, eq-eqb, ne-eqb, eqb-fal
 use Rattle.fields.specs.Bytes.{part, num, little, over, littleBytes}
 use Rattle.fields.proofs.Laws.{length-part, getD-part, part-part, part-add, length-over, drop-over, over-over}
 use Rattle.fields.proofs.Laws.{AllBytes, num-part, length-littleBytes, littleBytes-num, littleBytes-mod}
-use Rattle.moves.proofs.Laws.{over-ahead}
+use Rattle.buffers.proofs.Laws.{over-ahead}
 use Rattle.layout.specs.Banks.{entryCount, nextBank, bankFrom}
-use Rattle.plug.specs.Plug.{Bank, joined, pairs, bankBytes, blocks, indexesAt, banksAt}
-use Rattle.plug.specs.Edits.{raised, lowered, withIndexAt, moveContact, moveEntries}
-use Rattle.plug.proofs.Blocks.{every-map, Wide, joined-append, length-joined, length-blocks, blocks-wide}
-use Rattle.plug.proofs.Blocks.{pairs-append, length-pairs, length-indexes}
+use Rattle.model.specs.Codeplug.{Bank, joined, pairs, bankBytes, blocks, indexesAt, banksAt}
+use Rattle.model.specs.Edits.{raised, lowered, withIndexAt, moveContact, moveEntries}
+use Rattle.model.proofs.Blocks.{every-map, Wide, joined-append, length-joined, length-blocks, blocks-wide}
+use Rattle.model.proofs.Blocks.{pairs-append, length-pairs, length-indexes}
 use Rattle.renumber.specs.declared.shift.Shift.{Shift}
 use Rattle.renumber.specs.declared.shift.Shift.the-variants.{Raise, Lower}
 use Rattle.renumber.specs.declared.shift.Growth.{Growth}
@@ -241,36 +241,36 @@ offsets-last : (n : ℕ) (g : ℕ → ℕ) (f : List ℕ) (p : ℕ)
     → offsetsMoved n g f p ++ littleBytes 4 (g (num f (p + n * 4) 4)) ≡ offsetsMoved (n + 1) g f p
 offsets-last n g f p = offsets-suc n g f p ∙ rw (add-one n)
 
--- ---- a turn of a loop: d is f with a written at `start`, and e is d with t of what stands at p, right behind a, written there
+-- ---- an iteration of a loop: d is f with a written at `start`, and e is d with t of what stands at p, right behind a, written there
 
-pub turn : (t : List ℕ → List ℕ) (f d e a : List ℕ) (start p : ℕ) → p ≡ start + length a → p ≤ length f → d ≡ over f start a
+pub run-step-at : (t : List ℕ → List ℕ) (f d e a : List ℕ) (start p : ℕ) → p ≡ start + length a → p ≤ length f → d ≡ over f start a
     → e ≡ over d p (t (drop p d)) → e ≡ over f start (a ++ t (drop p f))
-turn t f d e a start p q h x y =
+run-step-at t f d e a start p q h x y =
     let z : drop p d ≡ drop p f = rw x (drop-over-behind f start a p (omega arith) (omega arith)) in
     y ∙ rw (z, x) (over-over f start a p (t (drop p f)) q (omega arith))
 
-pub contacts-turn : (g : ℕ → ℕ) (f d e : List ℕ) (start i p : ℕ) → p ≡ start + i * 90 → start + i * 90 + 90 ≤ length f
+pub contacts-step : (g : ℕ → ℕ) (f d e : List ℕ) (start i p : ℕ) → p ≡ start + i * 90 → start + i * 90 + 90 ≤ length f
     → d ≡ over f start (channelsMoved g f i start) → e ≡ over d p (moveContact g (part d p 90))
     → e ≡ over f start (channelsMoved g f (i + 1) start)
-contacts-turn g f d e start i p q h x y =
+contacts-step g f d e start i p q h x y =
     let n = length-channelsMoved g f i start (omega arith) in
-    turn (λ s. moveContact g (take 90 s)) f d e (channelsMoved g f i start) start p (omega arith) (omega arith) x y
+    run-step-at (λ s. moveContact g (take 90 s)) f d e (channelsMoved g f i start) start p (omega arith) (omega arith) x y
     ∙ rw (q, channelsMoved-last g f i start)
 
-pub run-turn : (g : ℕ → ℕ) (f d e : List ℕ) (start i p : ℕ) → p ≡ start + i * 2 → start + i * 2 ≤ length f
+pub run-step : (g : ℕ → ℕ) (f d e : List ℕ) (start i p : ℕ) → p ≡ start + i * 2 → start + i * 2 ≤ length f
     → d ≡ over f start (pairs (map g (indexesAt f i start))) → e ≡ over d p (littleBytes 2 (g (num d p 2)))
     → e ≡ over f start (pairs (map g (indexesAt f (i + 1) start)))
-run-turn g f d e start i p q h x y =
+run-step g f d e start i p q h x y =
     let n = length-run g f i start in
-    turn (λ s. littleBytes 2 (g (little (take 2 s)))) f d e (pairs (map g (indexesAt f i start))) start p (omega arith) (omega arith) x y
+    run-step-at (λ s. littleBytes 2 (g (little (take 2 s)))) f d e (pairs (map g (indexesAt f i start))) start p (omega arith) (omega arith) x y
     ∙ rw (q, run-last g f i start)
 
-pub offsets-turn : (g : ℕ → ℕ) (f d e : List ℕ) (start i p : ℕ) → p ≡ start + i * 4 → start + i * 4 ≤ length f
+pub offsets-step : (g : ℕ → ℕ) (f d e : List ℕ) (start i p : ℕ) → p ≡ start + i * 4 → start + i * 4 ≤ length f
     → d ≡ over f start (offsetsMoved i g f start) → e ≡ over d p (littleBytes 4 (g (num d p 4)))
     → e ≡ over f start (offsetsMoved (i + 1) g f start)
-offsets-turn g f d e start i p q h x y =
+offsets-step g f d e start i p q h x y =
     let n = length-offsetsMoved i g f start in
-    turn (λ s. littleBytes 4 (g (little (take 4 s)))) f d e (offsetsMoved i g f start) start p (omega arith) (omega arith) x y
+    run-step-at (λ s. littleBytes 4 (g (little (take 4 s)))) f d e (offsetsMoved i g f start) start p (omega arith) (omega arith) x y
     ∙ rw (q, offsets-last i g f start)
 
 -- ---- banks
@@ -395,7 +395,7 @@ bank-fits f start n i p k h at g c =
     let e : bankFrom f (i + 1) start ≡ p + 34 + k * 2 = rw (c, at) (bank-ends f i start) in
     (omega (arith, bank-order f (i + 1) n start (omega arith)), omega arith)
 
--- a turn of the loop over n banks, at the i-th, which stands at p: d is the list before it
+-- an iteration of the loop over n banks, at the i-th, which stands at p: d is the list before it
 module _ (g : ℕ → ℕ) (f d : List ℕ) (start n i p : ℕ) (b : AllBytes f) (before : i < n) (at : p ≡ bankFrom f i start)
     (fits : bankFrom f n start ≤ length f) (now : d ≡ over f start (banksMoved g f i start)) where
   bank-inside : p + 34 + entryCount f p * 2 ≤ length f
@@ -414,9 +414,9 @@ module _ (g : ℕ → ℕ) (f d : List ℕ) (start n i p : ℕ) (b : AllBytes f)
   entries-fit k c = bank-fits f start n i p k before at fits (c ∙ count-same d f p unmoved)
 
   -- e is the list after it
-  pub entries-turn : (e : List ℕ) (k : ℕ) → length d ≡ length f → k ≡ entryCount d p
+  pub entries-step : (e : List ℕ) (k : ℕ) → length d ≡ length f → k ≡ entryCount d p
       → e ≡ over d (p + 34) (pairs (map g (indexesAt d k (p + 34)))) → e ≡ over f start (banksMoved g f (i + 1) start)
-  entries-turn e k s c y =
+  entries-step e k s c y =
       let a = banksMoved g f i start in
       let w : e ≡ over d p (bankMoved g d p) = y ∙ rw c (bank-over g d p (omega (arith, bank-inside))) in
       let m : bankFrom f (i + 1) start ≤ length f = omega (arith, entries-fit k c) in

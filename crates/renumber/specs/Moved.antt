@@ -4,8 +4,8 @@ use mathlib.Core.List.{List, [], _++_, map}
 use lib.ListN.{drop}
 use Rattle.fields.specs.Bytes.{num, over, littleBytes}
 use Rattle.layout.specs.Places.{channelCount, bankCount, channelPlace, offsetPlace, banksPlace}
-use Rattle.plug.specs.Plug.{joined, blocks, bankBytes, banksAt}
-use Rattle.plug.specs.Edits.{moveContact, moveEntries}
+use Rattle.model.specs.Codeplug.{joined, blocks, bankBytes, banksAt}
+use Rattle.model.specs.Edits.{moveContact, moveEntries}
 
 -- ---- the bytes at p
 

@@ -1,6 +1,6 @@
 -- How one index or offset follows an edit.
 use Prim.Native.Nat.{ℕ, _+_, _-_}
-use Rattle.plug.specs.Edits.{raised, lowered}
+use Rattle.model.specs.Edits.{raised, lowered}
 use Rattle.renumber.specs.declared.shift.Shift.{Shift}
 use Rattle.renumber.specs.declared.shift.Shift.the-variants.{Raise, Lower}
 use Rattle.renumber.specs.declared.shift.Growth.{Growth}

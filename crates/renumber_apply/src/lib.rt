@@ -3,10 +3,10 @@ use fields::numbers::le16;
 use fields::numbers::le32;
 use fields::put::put_le16;
 use fields::put::put_le32;
+use format::sizes::BANK_ENTRY_SIZE;
 use format::sizes::BANK_HEAD_SIZE;
 use format::sizes::CHANNEL_SIZE;
 use format::sizes::DMR_CONTACT_AT;
-use format::sizes::ENTRY_SIZE;
 use format::sizes::M17_CONTACT_AT;
 use layout::places::entry_count;
 use renumber::shift::Growth;
@@ -19,8 +19,8 @@ ghost use lib.ListN.{length};
 ghost use mathlib.Core.List.{map};
 ghost use Rattle.fields.specs.Bytes.{over, part, num, littleBytes};
 ghost use Rattle.layout.specs.Banks.{bankFrom};
-ghost use Rattle.plug.specs.Plug.{pairs, indexesAt};
-ghost use Rattle.plug.specs.Edits.{moveContact};
+ghost use Rattle.model.specs.Codeplug.{pairs, indexesAt};
+ghost use Rattle.model.specs.Edits.{moveContact};
 ghost use Rattle.renumber.specs.Shift.{shiftOf, growthOf};
 ghost use Rattle.renumber.specs.Moved.{channelsMoved, banksMoved, offsetsMoved};
 
@@ -86,7 +86,7 @@ pub fn move_entries(d: &mut [u8], start: usize, n: usize, s: Shift)
         let count = entry_count(d, p);
         move_run(d, p + BANK_HEAD_SIZE, count, s);
         i += 1;
-        p += BANK_HEAD_SIZE + count * ENTRY_SIZE;
+        p += BANK_HEAD_SIZE + count * BANK_ENTRY_SIZE;
     }
 }
 

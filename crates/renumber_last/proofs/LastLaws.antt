@@ -1,4 +1,4 @@
--- Laws of the last index that moves: one index, and a turn of a loop over a run of records.
+-- Laws of the last index that moves: one index, and an iteration of a loop over a run of records.
 use Prim.Native.Nat.{ℕ, _+_, _*_, _≤_, _<_}
 use mathlib.Core.Path.{_≡_, ap, sym, _∙_}
 use mathlib.Core.List.{List, [], _++_, map}
@@ -6,10 +6,10 @@ use native.Mathlib.Omega.{arith}
 use lib.ListN.{length, drop}
 use Rattle.fields.specs.Bytes.{part, num, little, over, littleBytes}
 use Rattle.fields.proofs.Laws.{AllBytes, over-none, part-over, length-over, length-part, littleBytes-num, little-littleBytes, length-littleBytes}
-use Rattle.moves.proofs.Laws.{over-ahead}
+use Rattle.buffers.proofs.Laws.{over-ahead}
 use Rattle.layout.specs.Banks.{entryCount, bankFrom}
-use Rattle.plug.specs.Plug.{pairs, indexesAt}
-use Rattle.plug.specs.Edits.{moveContact}
+use Rattle.model.specs.Codeplug.{pairs, indexesAt}
+use Rattle.model.specs.Edits.{moveContact}
 use Rattle.renumber_last.specs.declared.Last.{Last}
 use Rattle.renumber_last.specs.declared.Last.the-variants.{Nowhere, At}
 use Rattle.renumber.specs.Moved.{channelsMoved, banksMoved}
@@ -78,9 +78,9 @@ last-later g f h a start p r (At l) s i u v =
     }
 
 -- a at `start` and then b at p, right behind it: t is the last of both
-pub last-turn : (g : ℕ → ℕ) (f a b c : List ℕ) (start p : ℕ) (r q t : Last) → p ≡ start + length a → p + length b ≤ length f → a ++ b ≡ c
+pub last-step : (g : ℕ → ℕ) (f a b c : List ℕ) (start p : ℕ) (r q t : Last) → p ≡ start + length a → p + length b ≤ length f → a ++ b ≡ c
     → LastMoved g f (over f start a) start r → LastMoved g f (over f p b) p q → t ≡ laterOf r q → LastMoved g f (over f start c) start t
-last-turn g f a b c start p r q t s h x u v w =
+last-step g f a b c start p r q t s h x u v w =
     let e : over (over f p b) start a ≡ over f start c = over-ahead f start a p b s (omega arith) ∙ ap (λ (l : List ℕ). over f start l) x in
     rw w
     (last-from g f (over (over f p b) start a) (over f start c) start start (laterOf r q) (omega arith) e
@@ -94,17 +94,17 @@ pub contacts-last : (g : ℕ → ℕ) (f : List ℕ) (start i p : ℕ) (r q t : 
 contacts-last g f start i p r q t at h u v w =
     let n = length-channelsMoved g f i start (omega arith) in
     let m = moved-wide g (part f p 90) (length-part f p 90 (omega arith)) in
-    last-turn g f (channelsMoved g f i start) (moveContact g (part f p 90)) (channelsMoved g f (i + 1) start) start p r q t
+    last-step g f (channelsMoved g f i start) (moveContact g (part f p 90)) (channelsMoved g f (i + 1) start) start p r q t
     (omega arith) (omega arith) (rw at (channelsMoved-last g f i start)) u v w
 
-pub run-last-turn : (g : ℕ → ℕ) (f : List ℕ) (start i p : ℕ) (r q t : Last) → p ≡ start + i * 2 → start + i * 2 + 2 ≤ length f
+pub run-last-step : (g : ℕ → ℕ) (f : List ℕ) (start i p : ℕ) (r q t : Last) → p ≡ start + i * 2 → start + i * 2 + 2 ≤ length f
     → LastMoved g f (over f start (pairs (map g (indexesAt f i start)))) start r
     → LastMoved g f (over f p (littleBytes 2 (g (num f p 2)))) p q → t ≡ laterOf r q
     → LastMoved g f (over f start (pairs (map g (indexesAt f (i + 1) start)))) start t
-run-last-turn g f start i p r q t at h u v w =
+run-last-step g f start i p r q t at h u v w =
     let n = length-run g f i start in
     let m = length-littleBytes 2 (g (num f p 2)) in
-    last-turn g f (pairs (map g (indexesAt f i start))) (littleBytes 2 (g (num f p 2))) (pairs (map g (indexesAt f (i + 1) start))) start p r q t
+    last-step g f (pairs (map g (indexesAt f i start))) (littleBytes 2 (g (num f p 2))) (pairs (map g (indexesAt f (i + 1) start))) start p r q t
     (omega arith) (omega arith) (rw at (run-last g f i start)) u v w
 
 -- the bank at p has k entries
@@ -118,6 +118,6 @@ entries-last g f start i p k r q t b at h c u v w =
     let n : start + length (banksMoved g f i start) ≡ bankFrom f i start = length-banksMoved g f i start b (omega arith) in
     let m = length-bankMoved g f p (omega arith) in
     let o : over f (p + 34) (pairs (map g (indexesAt f k (p + 34)))) ≡ over f p (bankMoved g f p) = rw c (bank-over g f p (omega arith)) in
-    last-turn g f (banksMoved g f i start) (bankMoved g f p) (banksMoved g f (i + 1) start) start p r q t
+    last-step g f (banksMoved g f i start) (bankMoved g f p) (banksMoved g f (i + 1) start) start p r q t
     (omega arith) (omega arith) (rw at (banksMoved-last g f i start b (omega arith))) u
     (last-from g f (over f (p + 34) (pairs (map g (indexesAt f k (p + 34))))) (over f p (bankMoved g f p)) (p + 34) p q (omega arith) o v) w

@@ -1,9 +1,9 @@
 // The last index that a renumbering changes. What stands behind it stays as it is, so no byte of it has to be compared.
 use fields::numbers::le16;
+use format::sizes::BANK_ENTRY_SIZE;
 use format::sizes::BANK_HEAD_SIZE;
 use format::sizes::CHANNEL_SIZE;
 use format::sizes::DMR_CONTACT_AT;
-use format::sizes::ENTRY_SIZE;
 use format::sizes::M17_CONTACT_AT;
 use layout::places::entry_count;
 use renumber::shift::Shift;
@@ -14,8 +14,8 @@ ghost use lib.ListN.{length};
 ghost use mathlib.Core.List.{map};
 ghost use Rattle.fields.specs.Bytes.{over, part, num, littleBytes};
 ghost use Rattle.layout.specs.Banks.{bankFrom};
-ghost use Rattle.plug.specs.Plug.{pairs, indexesAt};
-ghost use Rattle.plug.specs.Edits.{moveContact};
+ghost use Rattle.model.specs.Codeplug.{pairs, indexesAt};
+ghost use Rattle.model.specs.Edits.{moveContact};
 ghost use Rattle.renumber.specs.Shift.{shiftOf};
 ghost use Rattle.renumber.specs.Moved.{channelsMoved, banksMoved};
 ghost use Rattle.renumber_last.specs.Last.{LastMoved, laterOf};
@@ -106,7 +106,7 @@ pub fn last_entry(f: &[u8], start: usize, n: usize, s: Shift) -> Last
         let count = entry_count(f, p);
         last = later(last, last_of_run(f, p + BANK_HEAD_SIZE, count, s));
         i += 1;
-        p += BANK_HEAD_SIZE + count * ENTRY_SIZE;
+        p += BANK_HEAD_SIZE + count * BANK_ENTRY_SIZE;
     }
     last
 }

@@ -1,2 +1,2 @@
--- Laws of bytes reversed, turned and swapped.
-pub mod TurnLaws
+-- Laws of bytes reversed, rotated and swapped.
+pub mod RotationLaws

@@ -1,2 +1,2 @@
--- Bytes reversed, turned and swapped: how the code goes about it.
-pub mod Turn
+-- Bytes reversed, rotated and swapped: how the code goes about it.
+pub mod Rotation

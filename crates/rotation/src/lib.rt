@@ -1,15 +1,15 @@
-// Bytes of a buffer reversed or turned, and blocks of two buffers swapped: moves that can be taken back.
+// Bytes of a buffer reversed or rotated, and blocks of two buffers swapped: moves that can be taken back.
+use buffers::block::move_down;
+use buffers::block::move_up;
 use fields::put::put;
-use moves::block::move_down;
-use moves::block::move_up;
 ghost use mathlib.Core.Path.{_≡_};
 ghost use Prim.Native.Nat.{_+_, _≤_};
 ghost use lib.ListN.{length};
 ghost use Rattle.fields.specs.Bytes.{over, part};
-ghost use Rattle.rotation.specs.Turn.{reversed, turned};
+ghost use Rattle.rotation.specs.Rotation.{reversed, rotated};
 
 // Reverses the n bytes at `from`, from both ends.
-pub fn reverse(d: &mut [u8], from: usize, n: usize)
+fn reverse(d: &mut [u8], from: usize, n: usize)
     requires { ⌜ from + n ≤ length (now d) ⌝ }
     ensures { λ _. ⌜ now (d .exit) ≡ reversed (now (d .entry)) from n ⌝ }
 {
@@ -24,10 +24,10 @@ pub fn reverse(d: &mut [u8], from: usize, n: usize)
     }
 }
 
-// Turns the n bytes at `from` left by `by` places. Where few change sides, they are kept aside and the others moved as a block.
-pub fn turn(d: &mut [u8], from: usize, n: usize, by: usize)
+// Rotates the n bytes at `from` left by `by` places. Where few change sides, they are kept aside and the others moved as a block.
+pub fn rotate(d: &mut [u8], from: usize, n: usize, by: usize)
     requires { ⌜ (from + n ≤ length (now d)) × (by ≤ n) ⌝ }
-    ensures { λ _. ⌜ now (d .exit) ≡ turned (now (d .entry)) from n by ⌝ }
+    ensures { λ _. ⌜ now (d .exit) ≡ rotated (now (d .entry)) from n by ⌝ }
 {
     if by == 0 {
         return;
@@ -36,20 +36,20 @@ pub fn turn(d: &mut [u8], from: usize, n: usize, by: usize)
         return;
     }
     if by <= 128 {
-        turn_few_first(d, from, n, by);
+        rotate_few_first(d, from, n, by);
         return;
     }
     if n - by <= 128 {
-        turn_few_last(d, from, n, by);
+        rotate_few_last(d, from, n, by);
         return;
     }
-    turn_many(d, from, n, by);
+    rotate_many(d, from, n, by);
 }
 
 // The first bytes kept aside, the others moved down.
-fn turn_few_first(d: &mut [u8], from: usize, n: usize, by: usize)
+fn rotate_few_first(d: &mut [u8], from: usize, n: usize, by: usize)
     requires { ⌜ (from + n ≤ length (now d)) × ((by ≤ n) × (by ≤ 128)) ⌝ }
-    ensures { λ _. ⌜ now (d .exit) ≡ turned (now (d .entry)) from n by ⌝ }
+    ensures { λ _. ⌜ now (d .exit) ≡ rotated (now (d .entry)) from n by ⌝ }
 {
     let mut saved = [0u8; 128];
     put(&mut saved, 0, &d[from..from + by]);
@@ -58,9 +58,9 @@ fn turn_few_first(d: &mut [u8], from: usize, n: usize, by: usize)
 }
 
 // The last bytes kept aside, the others moved up.
-fn turn_few_last(d: &mut [u8], from: usize, n: usize, by: usize)
+fn rotate_few_last(d: &mut [u8], from: usize, n: usize, by: usize)
     requires { ⌜ (from + n ≤ length (now d)) × ((by ≤ n) × (n ≤ by + 128)) ⌝ }
-    ensures { λ _. ⌜ now (d .exit) ≡ turned (now (d .entry)) from n by ⌝ }
+    ensures { λ _. ⌜ now (d .exit) ≡ rotated (now (d .entry)) from n by ⌝ }
 {
     let mut saved = [0u8; 128];
     put(&mut saved, 0, &d[from + by..from + n]);
@@ -69,9 +69,9 @@ fn turn_few_last(d: &mut [u8], from: usize, n: usize, by: usize)
 }
 
 // Three reversals.
-fn turn_many(d: &mut [u8], from: usize, n: usize, by: usize)
+fn rotate_many(d: &mut [u8], from: usize, n: usize, by: usize)
     requires { ⌜ (from + n ≤ length (now d)) × (by ≤ n) ⌝ }
-    ensures { λ _. ⌜ now (d .exit) ≡ turned (now (d .entry)) from n by ⌝ }
+    ensures { λ _. ⌜ now (d .exit) ≡ rotated (now (d .entry)) from n by ⌝ }
 {
     reverse(d, from, by);
     reverse(d, from + by, n - by);

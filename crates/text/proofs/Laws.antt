@@ -1,4 +1,4 @@
--- Laws of texts: a field's bytes go to a text and back, and the judge's step from byte to byte. By recursion on the list.
+-- Laws of texts: a field's bytes go to a text and back, and validation's step from byte to byte. By recursion on the list.
 use Prim.Native.Nat.{ℕ, zero, suc, _+_, _-_, _≤_, _<_}
 use mathlib.Core.Path.{_≡_, refl, sym, ap, _∙_}
 use mathlib.Core.Logic.{_⊎_, inl, inr}
@@ -97,9 +97,9 @@ plain-next : (s : List ℕ) (i : ℕ) → i < length s → plainText (drop i s) 
 unfolding plainText
 plain-next s i h = rw (drop-cons s i 0 h, add-one)
 
-pub plain-turn : (s : List ℕ) (i : ℕ) → i < length s → 32 ≤ getD s i 0 → getD s i 0 ≤ 126
+pub plain-step : (s : List ℕ) (i : ℕ) → i < length s → 32 ≤ getD s i 0 → getD s i 0 ≤ 126
     → plainText s ≡ plainText (drop i s) → plainText s ≡ plainText (drop (i + 1) s)
-plain-turn s i h l u inv = inv ∙ (plain-next s i h ∙ rw (is-printable (getD s i 0) l u))
+plain-step s i h l u inv = inv ∙ (plain-next s i h ∙ rw (is-printable (getD s i 0) l u))
 
 pub plain-stop : (s : List ℕ) (i : ℕ) → i < length s → (getD s i 0 < 32) ⊎ (126 < getD s i 0)
     → plainText s ≡ plainText (drop i s) → false ≡ plainText s
@@ -206,9 +206,9 @@ plainText-low (b ∷ s) h (suc i) = plainText-low s (plain-tail b s h) i
 pub plainText-bytes : (s : List ℕ) → plainText s ≡ true → (i : ℕ) → getD s i 0 < 256
 plainText-bytes s h i = omega (arith, plainText-low s h i)
 
--- The judge's step
+-- Validation's step
 
--- a test and its turned negation
+-- a test and its negation the other way round
 turned : (a b : ℕ) (t : Bool) → leb a b ≡ t → ltb b a ≡ not t
 turned a b true e = le-ltb b a (leb-true a b e)
 turned a b false e = lt-ltb b a (leb-false a b e)
@@ -270,11 +270,11 @@ fault-step faults true r = rw (ne-eqb (faults + 1) 0 (λ e. omega arith)) (at (e
     at false = refl
 fault-step faults false r = rw add-zero
 
-pub scan-turn : (s : List ℕ) (i faults prev r : ℕ) → i < length s → r ≡ stepFault prev (getD s i 0)
+pub scan-step : (s : List ℕ) (i faults prev r : ℕ) → i < length s → r ≡ stepFault prev (getD s i 0)
     → textOk s ≡ cond (eqb faults 0) (restOk prev (drop i s)) false
     → textOk s ≡ cond (eqb (faults + r) 0) (restOk (getD s i 0) (drop (i + 1) s)) false
 unfolding stepFault
-scan-turn s i faults prev r h e inv =
+scan-step s i faults prev r h e inv =
     inv
     ∙ rw (drop-cons s i 0 h, restOk-cons prev (getD s i 0) (drop (suc i) s), e, add-one)
     (fault-step faults (faultAfter prev (getD s i 0)) (restOk (getD s i 0) (drop (suc i) s)))

@@ -1,4 +1,4 @@
--- How the text judge goes about it, byte after byte. No promise to a caller rests on these.
+-- How the validation of a text goes about it, byte after byte. No promise to a caller rests on these.
 use Prim.Native.Nat.{ℕ}
 use mathlib.Core.Bool.{Bool, _&&_, _||_, not, cond}
 use mathlib.Core.List.{List}

@@ -1,5 +1,5 @@
 // Text fields (document 01, "The file"): bytes 0x20 to 0x7E, then zeros.
-use fields::rule::Verdict;
+use fields::rule::Validity;
 ghost use mathlib.Core.Path.{_≡_};
 ghost use mathlib.Core.Bool.{true};
 ghost use Prim.Native.Nat.{_+_, _<_, _≤_, _^_};
@@ -36,14 +36,14 @@ pub fn text_ok(s: &[u8]) -> bool
 }
 
 // The text field at k of a record s that starts at base.
-pub fn text_field(s: &[u8], base: usize, k: usize) -> Verdict
+pub fn text_field(s: &[u8], base: usize, k: usize) -> Validity
     requires { ⌜ (base < 2 ^ 62) × (k < 2 ^ 32) ⌝ }
     ensures { λ r. ⌜ r ≡ field (now (s .entry)) base k 32 5 (textOk (part (now (s .entry)) k 32)) ⌝ }
 {
     if k + 32 <= s.len() {
         fields::rule::unless(text_ok(&s[k..k + 32]), format::refusals::TEXT, base + k)
     } else {
-        Verdict::Refused(format::refusals::CUT, base + k)
+        Validity::Refused(format::refusals::CUT, base + k)
     }
 }
 

@@ -16,7 +16,7 @@ use Rattle.tones.specs.declared.Tone.{Tone}
 use Rattle.tones.specs.declared.Tone.the-variants.{Enabled, Disabled}
 use Rattle.tones.specs.declared.ToneIndex.{ToneIndex}
 use Rattle.tones.specs.declared.ToneIndex.the-variants.{Index, NoIndex}
-use Rattle.tones.specs.Tone.{toneTable, toneOk, toneOf, toneIndex, toneByte, toneGood, indexFrom, indexOf}
+use Rattle.tones.specs.Tone.{toneTable, toneOk, toneOf, toneIndex, toneByte, toneValid, indexFrom, indexOf}
 
 -- ---- a tone byte
 
@@ -33,11 +33,11 @@ by-top : (P : Tone → Type 0) (b : ℕ) (t : Bool) → leb 128 b ≡ t → (128
 by-top P b true e f g = rw (toneOf-high b (leb-true 128 b e)) (f (leb-true 128 b e))
 by-top P b false e f g = rw (toneOf-low b (leb-false 128 b e)) (g (leb-false 128 b e))
 
-pub tone-index : (t : Tone) → toneGood t ≡ true → toneIndex t < 50
-unfolding toneGood
+pub tone-index : (t : Tone) → toneValid t ≡ true → toneIndex t < 50
+unfolding toneValid
 tone-index t g = ltb-true _ 50 g
 
-pub tone-returns : (t : Tone) → toneGood t ≡ true → toneOf (toneByte t) ≡ t
+pub tone-returns : (t : Tone) → toneValid t ≡ true → toneOf (toneByte t) ≡ t
 unfolding toneByte toneIndex
 tone-returns (Enabled i) g =
     let l : i < 50 = tone-index (Enabled i) g in
@@ -52,11 +52,11 @@ pub toneByte-of : (b : ℕ) → b < 256 → toneByte (toneOf b) ≡ b
 unfolding toneByte
 toneByte-of b l = by-top (λ (t : Tone). toneByte t ≡ b) b (leb 128 b) refl (λ h. omega arith) (λ h. omega arith)
 
-pub toneGood-of : (b : ℕ) → toneOk b ≡ true → toneGood (toneOf b) ≡ true
-unfolding toneOk toneGood toneIndex
-toneGood-of b k = by-top (λ (t : Tone). toneGood t ≡ true) b (leb 128 b) refl (λ h. k) (λ h. k)
+pub toneValid-of : (b : ℕ) → toneOk b ≡ true → toneValid (toneOf b) ≡ true
+unfolding toneOk toneValid toneIndex
+toneValid-of b k = by-top (λ (t : Tone). toneValid t ≡ true) b (leb 128 b) refl (λ h. k) (λ h. k)
 
-pub toneOk-byte : (t : Tone) → toneGood t ≡ true → toneOk (toneByte t) ≡ true
+pub toneOk-byte : (t : Tone) → toneValid t ≡ true → toneOk (toneByte t) ≡ true
 unfolding toneOk toneByte toneIndex
 toneOk-byte (Enabled i) g =
     let l : i < 50 = tone-index (Enabled i) g in
@@ -65,13 +65,13 @@ toneOk-byte (Disabled i) g =
     let l : i < 50 = tone-index (Disabled i) g in
     lt-ltb (i % 128) 50 (omega arith)
 
-pub toneByte-lt : (t : Tone) → toneGood t ≡ true → toneByte t < 256
+pub toneByte-lt : (t : Tone) → toneValid t ≡ true → toneByte t < 256
 unfolding toneByte toneIndex
 toneByte-lt (Enabled i) g = omega (arith, tone-index (Enabled i) g)
 toneByte-lt (Disabled i) g = omega (arith, tone-index (Disabled i) g)
 
 -- what the code makes of each kind
-pub enabled-byte : (t : Tone) (i : ℕ) → t ≡ Enabled i → toneGood t ≡ true → bitOr 128 i ≡ toneByte t
+pub enabled-byte : (t : Tone) (i : ℕ) → t ≡ Enabled i → toneValid t ≡ true → bitOr 128 i ≡ toneByte t
 unfolding toneByte toneIndex
 enabled-byte t i e g =
     let l : i < 50 = tone-index (Enabled i) (rw e at g) in
@@ -79,7 +79,7 @@ enabled-byte t i e g =
 
 -- ---- the table
 
--- one turn of the search: the entry at i is the one sought, or the search goes on behind it
+-- one iteration of the search: the entry at i is the one sought, or the search goes on behind it
 module _ (s : List ℕ) (x i : ℕ) (h : i < length s) where
   pub search-hit : getD s i 0 ≡ x → indexFrom i (drop i s) x ≡ Index i
   unfolding indexFrom

@@ -48,8 +48,8 @@ toneByte (Enabled i) = 128 + i
 toneByte (Disabled i) = i
 
 -- a tone whose index is in the table
-unfoldable pub toneGood : Tone → Bool
-toneGood t = inTable (toneIndex t)
+unfoldable pub toneValid : Tone → Bool
+toneValid t = inTable (toneIndex t)
 
 -- ---- what a tone means
 

@@ -2,7 +2,7 @@
 ghost use mathlib.Core.Path.{_≡_};
 ghost use mathlib.Core.Bool.{true};
 ghost use Prim.Native.Nat.{_+_, _<_};
-ghost use Rattle.tones.specs.Tone.{toneOk, toneOf, toneByte, toneGood, toneIndex, toneEnabled, toneFrom, frequencyOf, indexOf};
+ghost use Rattle.tones.specs.Tone.{toneOk, toneOf, toneByte, toneValid, toneIndex, toneEnabled, toneFrom, frequencyOf, indexOf};
 
 // A tone by its index in the table. A disabled tone keeps its index: a blank tone is Disabled(0), never Enabled(0).
 pub enum Tone {
@@ -95,7 +95,7 @@ pub fn tone_of(b: u8) -> Tone
 }
 
 pub fn tone_byte(t: Tone) -> u8
-    requires { ⌜ toneGood t ≡ true ⌝ }
+    requires { ⌜ toneValid t ≡ true ⌝ }
     ensures { λ r. ⌜ r ≡ toneByte t ⌝ }
 {
     match t {
@@ -104,8 +104,8 @@ pub fn tone_byte(t: Tone) -> u8
     }
 }
 
-pub fn tone_good(t: Tone) -> bool
-    ensures { λ r. ⌜ r ≡ toneGood t ⌝ }
+pub fn tone_valid(t: Tone) -> bool
+    ensures { λ r. ⌜ r ≡ toneValid t ⌝ }
 {
     match t {
         Tone::Enabled(i) => i < 50,

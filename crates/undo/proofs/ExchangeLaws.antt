@@ -7,19 +7,19 @@ use native.Mathlib.Omega.{arith}
 use lib.ListN.{length, take, drop, length-append, length-drop, take-append-drop}
 use lib.Seq.{drop-drop, length-take-le}
 use Rattle.fields.specs.Bytes.{part, over, zeros}
-use Rattle.fields.specs.Rule.{isGood}
-use Rattle.fields.specs.declared.rule.Verdict.{Verdict}
-use Rattle.fields.specs.declared.rule.Verdict.the-variants.{Good, Refused}
+use Rattle.fields.specs.Rule.{isValid}
+use Rattle.fields.specs.declared.rule.Validity.{Validity}
+use Rattle.fields.specs.declared.rule.Validity.the-variants.{Valid, Refused}
 use Rattle.fields.proofs.Laws.{length-part, length-over, length-zeros, part-over, drop-over}
 use Rattle.file_rule.specs.File.{fileRule}
-use Rattle.moves.specs.Cut.{cut}
-use Rattle.moves.specs.Splice.{spliced}
-use Rattle.rotation.specs.Turn.{turned}
-use Rattle.moves.proofs.Laws.{spliced-whole, spliced-of, take-over-before}
-use Rattle.rotation.proofs.TurnLaws.{cut-three, cut-four, over-mid, turned-mid, length-turned}
+use Rattle.buffers.specs.Cut.{cut}
+use Rattle.buffers.specs.Splice.{spliced}
+use Rattle.rotation.specs.Rotation.{rotated}
+use Rattle.buffers.proofs.Laws.{spliced-whole, spliced-of, take-over-before}
+use Rattle.rotation.proofs.RotationLaws.{cut-three, cut-four, over-mid, rotated-mid, length-rotated}
 use Rattle.undo.specs.Undo.{Tried}
 
--- ---- a swap and a turn taken back
+-- ---- a swap and a rotation taken back
 
 over-again : (d : List ℕ) (k n : ℕ) (s : List ℕ) → k + n ≤ length d → length s ≡ n → over (over d k s) k (part d k n) ≡ d
 over-again d k n s h e =
@@ -39,8 +39,8 @@ swap-back a x b y i j n e f h g =
     let r : part y j n ≡ part a i n = rw f (part-over b j (part a i n) n (omega arith) l) in
     rw (r, e) (over-again a i n (part b j n) h m)
 
-pub turn-back : (d x : List ℕ) (k n m j : ℕ) → x ≡ turned d k n m → j + m ≡ n → k + n ≤ length d → turned x k n j ≡ d
-turn-back d x k n m j e f h =
+pub rotate-back : (d x : List ℕ) (k n m j : ℕ) → x ≡ rotated d k n m → j + m ≡ n → k + n ≤ length d → rotated x k n j ≡ d
+rotate-back d x k n m j e f h =
     let p = take k d in
     let a = part d k m in
     let b = part d (k + m) j in
@@ -49,8 +49,8 @@ turn-back d x k n m j e f h =
     let lp : length p ≡ k = length-take-le k d (omega arith) in
     let la : length a ≡ m = length-part d k m (omega arith) in
     let lb : length b ≡ j = length-part d (k + m) j (omega arith) in
-    let x-is : x ≡ p ++ (b ++ (a ++ q)) = e ∙ turned-mid d p a b q k n m whole lp la (omega arith) in
-    turned-mid x p b a q k n j x-is lp lb (omega arith) ∙ sym whole
+    let x-is : x ≡ p ++ (b ++ (a ++ q)) = e ∙ rotated-mid d p a b q k n m whole lp la (omega arith) in
+    rotated-mid x p b a q k n j x-is lp lb (omega arith) ∙ sym whole
 
 -- what lies behind a swapped block is as it was
 pub swap-behind : (y b a : List ℕ) (i j n : ℕ) → y ≡ over b j (part a i n) → i + n ≤ length a → j + n ≤ length b
@@ -63,12 +63,12 @@ swap-behind y b a i j n e h g =
 -- ---- at least as many bytes come as leave
 
 longer-pieces : (d p k b s r o : List ℕ) (i n j t : ℕ) → d ≡ p ++ (k ++ (b ++ (s ++ r))) → length p ≡ i → length k ≡ n → length b ≡ j
-    → length s ≡ t → length o ≡ n + t → over (turned d (i + n) (j + t) j) i o ≡ p ++ (o ++ (b ++ r))
+    → length s ≡ t → length o ≡ n + t → over (rotated d (i + n) (j + t) j) i o ≡ p ++ (o ++ (b ++ r))
 longer-pieces d p k b s r o i n j t e lp lk lb ls lo =
     let whole : d ≡ (p ++ k) ++ (b ++ (s ++ r)) = e ∙ sym (append-assoc p k (b ++ (s ++ r))) in
     let l : length (p ++ k) ≡ i + n = rw (length-append, lp, lk) in
-    let a : turned d (i + n) (j + t) j ≡ p ++ ((k ++ s) ++ (b ++ r)) =
-    turned-mid d (p ++ k) b s r (i + n) (j + t) j whole l lb (omega arith)
+    let a : rotated d (i + n) (j + t) j ≡ p ++ ((k ++ s) ++ (b ++ r)) =
+    rotated-mid d (p ++ k) b s r (i + n) (j + t) j whole l lb (omega arith)
     ∙ append-assoc p k (s ++ (b ++ r))
     ∙ ap (λ (u : List ℕ). p ++ u) (sym (append-assoc k s (b ++ r)))
     in
@@ -76,7 +76,7 @@ longer-pieces d p k b s r o i n j t e lp lk lb ls lo =
     rw a (over-mid p (k ++ s) o (b ++ r) i lp m)
 
 pub longer-is : (d o : List ℕ) (len p k : ℕ) → p + k ≤ len → len ≤ length d → len + length o ≤ length d + k → k ≤ length o
-    → over (turned d (p + k) (len - (p + k) + (length o - k)) (len - (p + k))) p o ≡ spliced d len p k o
+    → over (rotated d (p + k) (len - (p + k) + (length o - k)) (len - (p + k))) p o ≡ spliced d len p k o
 unfolding zeros
 longer-is d o len p k a h f g =
     let b = len - (p + k) in
@@ -101,20 +101,20 @@ longer-is d o len p k a h f g =
 
 shorter-pieces : (d p k s b r o z : List ℕ) (i n j t : ℕ) → d ≡ p ++ (k ++ (s ++ (b ++ r))) → length p ≡ i → length k ≡ length o → length o ≡ n
     → length s ≡ t → length b ≡ j → length z ≡ t
-    → over (turned (over d i o) (i + n) (t + j) t) (i + n + j) z ≡ (p ++ (o ++ b)) ++ (z ++ r)
+    → over (rotated (over d i o) (i + n) (t + j) t) (i + n + j) z ≡ (p ++ (o ++ b)) ++ (z ++ r)
 shorter-pieces d p k s b r o z i n j t e lp lk lo ls lb lz =
     let x : over d i o ≡ (p ++ o) ++ (s ++ (b ++ r)) =
     ap (λ (u : List ℕ). over u i o) e ∙ over-mid p k o (s ++ (b ++ r)) i lp lk ∙ sym (append-assoc p o (s ++ (b ++ r)))
     in
     let l : length (p ++ o) ≡ i + n = rw (length-append, lp, lo) in
-    let y : turned (over d i o) (i + n) (t + j) t ≡ ((p ++ o) ++ b) ++ (s ++ r) =
-    turned-mid (over d i o) (p ++ o) s b r (i + n) (t + j) t x l ls (omega arith) ∙ sym (append-assoc (p ++ o) b (s ++ r))
+    let y : rotated (over d i o) (i + n) (t + j) t ≡ ((p ++ o) ++ b) ++ (s ++ r) =
+    rotated-mid (over d i o) (p ++ o) s b r (i + n) (t + j) t x l ls (omega arith) ∙ sym (append-assoc (p ++ o) b (s ++ r))
     in
     let m : length ((p ++ o) ++ b) ≡ i + n + j = rw (length-append (p ++ o) b, l, lb) in
     rw y (over-mid ((p ++ o) ++ b) s z r (i + n + j) m (ls ∙ sym lz) ∙ ap (λ (u : List ℕ). u ++ (z ++ r)) (append-assoc p o b))
 
 pub shorter-is : (d o : List ℕ) (len p k : ℕ) → p + k ≤ len → len ≤ length d → length o < k
-    → over (turned (over d p o) (p + length o) (k - length o + (len - (p + k))) (k - length o)) (len - (k - length o)) (zeros (k - length o))
+    → over (rotated (over d p o) (p + length o) (k - length o + (len - (p + k))) (k - length o)) (len - (k - length o)) (zeros (k - length o))
     ≡ spliced d len p k o
 shorter-is d o len p k a h g =
     let b = len - (p + k) in
@@ -147,27 +147,27 @@ content-is : (d x o : List ℕ) (len p k n : ℕ) → x ≡ spliced d len p k o 
 unfolding cut
 content-is d x o len p k n e f a h g = rw (e, f) (spliced-of d len p k o a h g (take len d) refl)
 
-good-is : (v : Verdict) (s t : List ℕ) → v ≡ fileRule s → s ≡ t → v ≡ Good → true ≡ isGood (fileRule t)
-unfolding isGood
-good-is v s t e f g = let h : fileRule t ≡ Good = ap fileRule (sym f) ∙ sym e ∙ g in rw h
+valid-is : (v : Validity) (s t : List ℕ) → v ≡ fileRule s → s ≡ t → v ≡ Valid → true ≡ isValid (fileRule t)
+unfolding isValid
+valid-is v s t e f g = let h : fileRule t ≡ Valid = ap fileRule (sym f) ∙ sym e ∙ g in rw h
 
-bad-is : (v : Verdict) (s t : List ℕ) (a b : ℕ) → v ≡ fileRule s → s ≡ t → v ≡ Refused a b → false ≡ isGood (fileRule t)
-unfolding isGood
+bad-is : (v : Validity) (s t : List ℕ) (a b : ℕ) → v ≡ fileRule s → s ≡ t → v ≡ Refused a b → false ≡ isValid (fileRule t)
+unfolding isValid
 bad-is v s t a b e f g = let h : fileRule t ≡ Refused a b = ap fileRule (sym f) ∙ sym e ∙ g in rw h
 
--- ---- the exchange, judged: x is the room after the first step, y after the second, z the history after the swap
+-- ---- the exchange, validated: x is the room after the first step, y after the second, z the history after the swap
 
-module _ (d h x y z : List ℕ) (len p k body m : ℕ) (v : Verdict) (inside : p + k ≤ len) (held : len ≤ length d)
+module _ (d h x y z : List ℕ) (len p k body m : ℕ) (v : Validity) (inside : p + k ≤ len) (held : len ≤ length d)
     (fits : len + m ≤ length d + k) (stored : body + m ≤ length h) where
   taken-length : length (part h body m) ≡ m
   taken-length = length-part h body m stored
 
-  tried-good : (w s : List ℕ) (i : ℕ) (r : List ℕ) → w ≡ spliced d len p k (part h body m) → v ≡ fileRule s
-      → s ≡ cut (take len d) p k (part h body m) → v ≡ Good → z ≡ over h body (part r i m) → i + m ≤ length r
+  tried-valid : (w s : List ℕ) (i : ℕ) (r : List ℕ) → w ≡ spliced d len p k (part h body m) → v ≡ fileRule s
+      → s ≡ cut (take len d) p k (part h body m) → v ≡ Valid → z ≡ over h body (part r i m) → i + m ≤ length r
       → Tried d len p k h body m true w z
-  tried-good w s i r e f c g j l =
+  tried-valid w s i r e f c g j l =
       record {
-        judged = good-is v s (cut (take len d) p k (part h body m)) f c g;
+        validated = valid-is v s (cut (take len d) p k (part h body m)) f c g;
         room-is = e;
         behind-is = swap-behind z h r i body m j l stored;
         kept = λ n. absurd (true≢false n);
@@ -177,14 +177,14 @@ module _ (d h x y z : List ℕ) (len p k body m : ℕ) (v : Verdict) (inside : p
       → Tried d len p k h body m false w u
   tried-bad w s u a b e f g c j =
       record {
-        judged = bad-is v s (cut (take len d) p k (part h body m)) a b g c j;
+        validated = bad-is v s (cut (take len d) p k (part h body m)) a b g c j;
         room-is = e;
         behind-is = rw f;
         kept = λ n. f;
       }
 
-  -- at least as many bytes come as leave: turned, then swapped
-  module _ (more : k ≤ m) (e : x ≡ turned d (p + k) (len - (p + k) + (m - k)) (len - (p + k))) (f : (y ≡ over x p (part h body m))
+  -- at least as many bytes come as leave: rotated, then swapped
+  module _ (more : k ≤ m) (e : x ≡ rotated d (p + k) (len - (p + k) + (m - k)) (len - (p + k))) (f : (y ≡ over x p (part h body m))
       × (z ≡ over h body (part x p m))) (j : v ≡ fileRule (take (len + (m - k)) y)) where
     longer-room : y ≡ spliced d len p k (part h body m)
     longer-room =
@@ -193,34 +193,34 @@ module _ (d h x y z : List ℕ) (len p k body m : ℕ) (v : Verdict) (inside : p
         rw (f .0, e) (rw l at g)
 
     longer-size : length x ≡ length d
-    longer-size = rw e (length-turned d (p + k) (len - (p + k) + (m - k)) (len - (p + k)) (omega arith) (omega arith))
+    longer-size = rw e (length-rotated d (p + k) (len - (p + k) + (m - k)) (len - (p + k)) (omega arith) (omega arith))
 
     longer-content : take (len + (m - k)) y ≡ cut (take len d) p k (part h body m)
     longer-content =
         let l = taken-length in
         content-is d y (part h body m) len p k (len + (m - k)) longer-room (omega arith) inside held (omega arith)
 
-    pub longer-good : v ≡ Good → Tried d len p k h body m true y z
-    longer-good g =
+    pub longer-valid : v ≡ Valid → Tried d len p k h body m true y z
+    longer-valid g =
         let l = longer-size in
-        tried-good y (take (len + (m - k)) y) p x longer-room j longer-content g (f .1) (omega arith)
+        tried-valid y (take (len + (m - k)) y) p x longer-room j longer-content g (f .1) (omega arith)
 
-    -- both taken back: y₁ and z₁ are the buffers after the second swap, w the room after the second turn
+    -- both taken back: y₁ and z₁ are the buffers after the second swap, w the room after the second rotation
     pub longer-bad : (y₁ z₁ w : List ℕ) (a b : ℕ) → v ≡ Refused a b → (y₁ ≡ over y p (part z body m)) × (z₁ ≡ over z body (part y p m))
-        → w ≡ turned y₁ (p + k) (len - (p + k) + (m - k)) (m - k) → Tried d len p k h body m false w z₁
+        → w ≡ rotated y₁ (p + k) (len - (p + k) + (m - k)) (m - k) → Tried d len p k h body m false w z₁
     longer-bad y₁ z₁ w a b g q t =
         let l = longer-size in
         let y-is : y₁ ≡ x = q .0 ∙ swap-back x y h z p body m (f .0) (f .1) (omega arith) stored in
         let z-is : z₁ ≡ h = q .1 ∙ swap-back h z x y body p m (f .1) (f .0) stored (omega arith) in
         let w-is : w ≡ d =
         t
-        ∙ turn-back d y₁ (p + k) (len - (p + k) + (m - k)) (len - (p + k)) (m - k) (y-is ∙ e) (omega arith) (omega arith)
+        ∙ rotate-back d y₁ (p + k) (len - (p + k) + (m - k)) (len - (p + k)) (m - k) (y-is ∙ e) (omega arith) (omega arith)
         in
         tried-bad w (take (len + (m - k)) y) z₁ a b w-is z-is j longer-content g
 
-  -- fewer bytes come than leave: swapped, then turned
+  -- fewer bytes come than leave: swapped, then rotated
   module _ (less : m < k) (e : (x ≡ over d p (part h body m)) × (z ≡ over h body (part d p m)))
-      (f : y ≡ turned x (p + m) (k - m + (len - (p + k))) (k - m)) (j : v ≡ fileRule (take (len - (k - m)) y)) where
+      (f : y ≡ rotated x (p + m) (k - m + (len - (p + k))) (k - m)) (j : v ≡ fileRule (take (len - (k - m)) y)) where
     shorter-room : over y (len - (k - m)) (zeros (k - m)) ≡ spliced d len p k (part h body m)
     shorter-room =
         let l = taken-length in
@@ -230,28 +230,28 @@ module _ (d h x y z : List ℕ) (len p k body m : ℕ) (v : Verdict) (inside : p
     shorter-size : length x ≡ length d
     shorter-size = let l = taken-length in rw (e .0) (length-over d p (part h body m) (omega arith))
 
-    shorter-turned : length y ≡ length d
-    shorter-turned =
+    shorter-rotated : length y ≡ length d
+    shorter-rotated =
         let l = shorter-size in
-        rw f (length-turned x (p + m) (k - m + (len - (p + k))) (k - m) (omega arith) (omega arith)) ∙ l
+        rw f (length-rotated x (p + m) (k - m + (len - (p + k))) (k - m) (omega arith) (omega arith)) ∙ l
 
     shorter-content : take (len - (k - m)) y ≡ cut (take len d) p k (part h body m)
     shorter-content =
         let l = taken-length in
-        let n = shorter-turned in
+        let n = shorter-rotated in
         sym (take-over-before y (len - (k - m)) (zeros (k - m)) (len - (k - m)) (omega arith) (omega arith))
         ∙ content-is d (over y (len - (k - m)) (zeros (k - m))) (part h body m) len p k (len - (k - m)) shorter-room (omega arith) inside held
         (omega arith)
 
-    pub shorter-good : (w : List ℕ) → v ≡ Good → w ≡ over y (len - (k - m)) (zeros (k - m)) → Tried d len p k h body m true w z
-    shorter-good w g t =
-        tried-good w (take (len - (k - m)) y) p d (t ∙ shorter-room) j shorter-content g (e .1) (omega arith)
+    pub shorter-valid : (w : List ℕ) → v ≡ Valid → w ≡ over y (len - (k - m)) (zeros (k - m)) → Tried d len p k h body m true w z
+    shorter-valid w g t =
+        tried-valid w (take (len - (k - m)) y) p d (t ∙ shorter-room) j shorter-content g (e .1) (omega arith)
 
-    pub shorter-bad : (y₁ z₁ w : List ℕ) (a b : ℕ) → v ≡ Refused a b → y₁ ≡ turned y (p + m) (k - m + (len - (p + k))) (len - (p + k))
+    pub shorter-bad : (y₁ z₁ w : List ℕ) (a b : ℕ) → v ≡ Refused a b → y₁ ≡ rotated y (p + m) (k - m + (len - (p + k))) (len - (p + k))
         → (w ≡ over y₁ p (part z body m)) × (z₁ ≡ over z body (part y₁ p m)) → Tried d len p k h body m false w z₁
     shorter-bad y₁ z₁ w a b g t q =
         let l = shorter-size in
-        let y-is : y₁ ≡ x = t ∙ turn-back x y (p + m) (k - m + (len - (p + k))) (k - m) (len - (p + k)) f (omega arith) (omega arith) in
+        let y-is : y₁ ≡ x = t ∙ rotate-back x y (p + m) (k - m + (len - (p + k))) (k - m) (len - (p + k)) f (omega arith) (omega arith) in
         let w-is : w ≡ d = q .0 ∙ rw y-is (swap-back d x h z p body m (e .0) (e .1) (omega arith) stored) in
         let z-is : z₁ ≡ h = q .1 ∙ rw y-is (swap-back h z d x body p m (e .1) (e .0) stored (omega arith)) in
         tried-bad w (take (len - (k - m)) y) z₁ a b w-is z-is j shorter-content g

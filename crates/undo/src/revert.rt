@@ -1,15 +1,15 @@
-// An entry's m bytes put in place of k bytes of a codeplug, judged, and taken out again where the result is refused. The bytes that leave
+// An entry's m bytes put in place of k bytes of a codeplug, validated, and taken out again where the result is refused. The bytes that leave
 // stand meanwhile in the entry and, where they are more, behind the codeplug.
-use fields::rule::Verdict;
-use moves::block::clear;
+use buffers::block::clear;
+use fields::rule::Validity;
+use rotation::rotate;
 use rotation::swap;
-use rotation::turn;
-use validation::judge::verdict_on;
+use validation::validity_of;
 ghost use Prim.Native.Nat.{_+_, _≤_, _<_};
 ghost use lib.ListN.{length};
 ghost use Rattle.undo.specs.Undo.{Tried};
 
-// At least as many bytes come as leave: spare bytes are turned to the front of what lies behind, then all are swapped.
+// At least as many bytes come as leave: spare bytes are rotated to the front of what lies behind, then all are swapped.
 fn revert_longer(
     room: &mut [u8],
     len: usize,
@@ -24,17 +24,17 @@ fn revert_longer(
 {
     let behind = len - (p + k);
     let spare = m - k;
-    turn(room, p + k, behind + spare, behind);
+    rotate(room, p + k, behind + spare, behind);
     swap(room, p, history, body, m);
-    if let Verdict::Good = verdict_on(&room[..len + spare]) {
+    if let Validity::Valid = validity_of(&room[..len + spare]) {
         return true;
     }
     swap(room, p, history, body, m);
-    turn(room, p + k, behind + spare, spare);
+    rotate(room, p + k, behind + spare, spare);
     false
 }
 
-// Fewer bytes come than leave: as many are swapped, then the others are turned behind the codeplug.
+// Fewer bytes come than leave: as many are swapped, then the others are rotated behind the codeplug.
 fn revert_shorter(
     room: &mut [u8],
     len: usize,
@@ -50,18 +50,18 @@ fn revert_shorter(
     let behind = len - (p + k);
     let spare = k - m;
     swap(room, p, history, body, m);
-    turn(room, p + m, spare + behind, spare);
-    if let Verdict::Good = verdict_on(&room[..len - spare]) {
+    rotate(room, p + m, spare + behind, spare);
+    if let Validity::Valid = validity_of(&room[..len - spare]) {
         clear(room, len - spare, spare);
         return true;
     }
-    turn(room, p + m, spare + behind, behind);
+    rotate(room, p + m, spare + behind, behind);
     swap(room, p, history, body, m);
     false
 }
 
-// Whether the result is good: then the room holds it, else both buffers are as they were.
-pub fn revert(
+// Whether the result is valid: then the room holds it, else both buffers are as they were.
+pub(crate) fn revert(
     room: &mut [u8],
     len: usize,
     p: usize,

@@ -1,2 +1,2 @@
--- The judge's answer.
-pub mod Judgement
+-- What validation answers.
+pub mod Validation

@@ -56,8 +56,8 @@ more-number : (n : ℕ) (alone : Bool) (b : ℕ) (s : List ℕ) (x m : ℕ) → 
     → groupsAt (suc n) alone (b ∷ s) ≡ Number (b - 128 + 128 * x) (m + 1)
 more-number n alone b s x m h e = rw (at-more n alone b s h, e, with-group)
 
-last-good : (n b : ℕ) (s : List ℕ) → 0 < b → b < 128 → groupsAt (suc n) false (b ∷ s) ≡ Number b 1
-last-good n b s h g =
+last-valid : (n b : ℕ) (s : List ℕ) → 0 < b → b < 128 → groupsAt (suc n) false (b ∷ s) ≡ Number b 1
+last-valid n b s h g =
     let z : b ≡ 0 → ⊥ = λ e. omega arith in
     at-last n false b s g (and-false (eqb b 0) true (ne-eqb b 0 z))
 
@@ -92,7 +92,7 @@ pub read-two : {s : List ℕ} {k a b : ℕ} → ByteHere s k a → ByteHere s (k
 unfolding numberAt
 read-two {s} {k} {a} {b} g h i j l =
     let u = drop (k + 2) s in
-    rw (from-two g h, more-number 2 true a (b ∷ u) b 1 i (last-good 1 b u j l))
+    rw (from-two g h, more-number 2 true a (b ∷ u) b 1 i (last-valid 1 b u j l))
     (sym (most-within 1_048_576 (a - 128 + 128 * b) 2 (omega (arith, g .byte))))
 
 pub read-cut-two : {s : List ℕ} {k a b : ℕ} → ByteHere s k a → ByteHere s (k + 1) b → 128 ≤ a → 128 ≤ b → length s ≤ k + 2
@@ -132,7 +132,7 @@ three-number {s} {k} {a} {b} {c} t h g =
     rw (
       from-all t,
       more-number 2 true a (b ∷ c ∷ u) (b - 128 + 128 * c) 2 (t .first-more)
-          (more-number 1 false b (c ∷ u) c 1 (t .second-more) (last-good 0 c u h g)),
+          (more-number 1 false b (c ∷ u) c 1 (t .second-more) (last-valid 0 c u h g)),
     )
 
 pub read-large : {s : List ℕ} {k a b c : ℕ} → Three s k a b c → 0 < c → c < 128

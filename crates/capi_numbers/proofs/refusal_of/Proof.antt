@@ -1,4 +1,4 @@
--- By the kind of verdict.
+-- By the kind of validity.
 use borrow.Author.Needs.{needs}
 use Rattle.capi_numbers.proofs.refusal_of.Statement.{statement}
 use Rattle.capi_numbers.proofs.refusal_of.Tie as tie

@@ -1,4 +1,4 @@
--- Each verdict answers as the definition. A good one comes with all 90 bytes.
+-- Each validity answers as the definition. `Valid` comes with all 90 bytes.
 use Rattle.channel_reader.specs.Reading.{channelAnswer}
 use borrow.Author.Needs.{needs}
 use Rattle.channel_reader.proofs.answer.Statement.{statement}
@@ -16,7 +16,7 @@ returns c = rw (c .before .enum-told .given .1, c .channel-of .ensures)
 
 returns-2 : tie.Need-returns-2
 unfolding channelAnswer
-returns-2 c = rw (c .before .before .verdict .given .1, c .blank .ensures)
+returns-2 c = rw (c .before .before .validity .given .1, c .blank .ensures)
 
 pub answer-spec : {M : Type 1} → statement M
 answer-spec =

@@ -11,7 +11,7 @@ returns c =
       c .contact-index-of .ensures,
       c .before .le16 .ensures,
       c .before .before .byte-at2 .ensures,
-      c .before .before .before .halves-of .ensures,
+      c .before .before .before .nibbles-of .ensures,
       c .before .before .before .before .byte-at .ensures,
     )
 

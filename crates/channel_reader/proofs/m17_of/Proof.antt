@@ -12,9 +12,9 @@ returns c =
       c .byte-at3 .ensures,
       c .before .contact-index-of .ensures,
       c .before .before .le16 .ensures,
-      c .before .before .before .halves-of2 .ensures,
+      c .before .before .before .nibbles-of2 .ensures,
       c .before .before .before .before .byte-at2 .ensures,
-      d .halves-of .ensures,
+      d .nibbles-of .ensures,
       d .before .byte-at .ensures,
     )
 

@@ -1,4 +1,4 @@
--- `write::mode_number`: by the kind of info.
+-- `mode_number`: by the kind of info.
 use borrow.Author.Needs.{needs}
 use Rattle.channel.specs.Values.{modeNumber}
 use Rattle.channel_writer.proofs.mode_number.Statement.{statement}

@@ -1,19 +1,19 @@
--- `write::put_fm`: two tones over zeros, which stay in the three pads.
+-- `put_fm`: two tones over zeros, which stay in the three pads.
 use mathlib.Core.Path.{refl, _∙_}
 use native.Mathlib.Omega.{arith}
 use borrow.Author.Needs.{needs}
 use Rattle.fields.specs.Bytes.{zeros}
 use Rattle.fields.proofs.Laws.{long-byte}
 use Rattle.channel_writer.specs.Writing.{infoBytes}
-use Rattle.channel_writer.proofs.WriteLaws.{fm-told, run-start, run-then, run-zeros}
+use Rattle.channel_writer.proofs.WriteLaws.{fm-writable, run-start, run-then, run-zeros}
 use Rattle.channel_writer.proofs.put_fm.Statement.{statement}
 use Rattle.channel_writer.proofs.put_fm.Tie as tie
 
 tone-byte-requires : tie.Need-tone-byte-requires
-tone-byte-requires c κs = let g = fm-told _ (c .before .before .pre .1 .1) in search
+tone-byte-requires c κs = let g = fm-writable _ (c .before .before .pre .1 .1) in search
 
 tone-byte-requires-2 : tie.Need-tone-byte-requires-2
-tone-byte-requires-2 c κs = let g = fm-told _ (c .before .before .before .before .before .before .before .pre .1 .1) in search
+tone-byte-requires-2 c κs = let g = fm-writable _ (c .before .before .before .before .before .before .before .pre .1 .1) in search
 
 returns : tie.Need-returns
 unfolding infoBytes zeros

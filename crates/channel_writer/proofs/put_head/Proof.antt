@@ -1,17 +1,17 @@
--- `write::put_head`: the fields lie side by side from the record's first byte on.
+-- `put_head`: the fields lie side by side from the record's first byte on.
 use mathlib.Core.Path.{_∙_}
 use native.Mathlib.Omega.{arith}
 use borrow.Author.Needs.{needs}
 use Rattle.fields.specs.Bytes.{littleBytes}
 use Rattle.fields.proofs.Laws.{long-byte, long-little}
 use Rattle.channel_writer.specs.Writing.{headBytes}
-use Rattle.channel_writer.proofs.WriteLaws.{head-told, run-start, run-then}
+use Rattle.channel_writer.proofs.WriteLaws.{head-writable, run-start, run-then}
 use Rattle.channel_writer.proofs.put_head.Statement.{statement}
 use Rattle.channel_writer.proofs.put_head.Tie as tie
 
-choice-byte-requires : tie.Need-choice-byte-requires
-choice-byte-requires c κs =
-    rw (c .traits-choice .ensures) (head-told _ (c .before .before .before .before .before .before .before .before .pre .1) .choice)
+number-flag-byte-requires : tie.Need-number-flag-byte-requires
+number-flag-byte-requires c κs =
+    rw (c .traits-number-flag .ensures) (head-writable _ (c .before .before .before .before .before .before .before .before .pre .1) .traits)
 
 returns : tie.Need-returns
 unfolding headBytes littleBytes
@@ -26,7 +26,7 @@ returns c =
     let r5 = run-then r4 _ _ (long-little 4 _) (e .put-le322 .ensures) in
     let r6 = run-then r5 _ _ (long-byte _) (c .before .before .before .before .before .before .put-byte4 .ensures) in
     let r7 = run-then r6 _ _ (long-byte _) (c .before .before .put-byte5 .ensures) in
-    r7 .is ∙ rw (g .choice-byte .ensures, g .before .traits-choice .ensures)
+    r7 .is ∙ rw (g .number-flag-byte .ensures, g .before .traits-number-flag .ensures)
 
 pub put-head-spec : {M : Type 1} → statement M
 put-head-spec =
@@ -34,7 +34,7 @@ put-head-spec =
     (tie.spec
     (search needs)
     (search needs)
-    choice-byte-requires
+    number-flag-byte-requires
     (search needs)
     (search needs)
     (search needs)

@@ -1,4 +1,4 @@
--- `write::put_info`: by the kind of info.
+-- `put_info`: by the kind of info.
 use mathlib.Core.Path.{_∙_}
 use borrow.Author.Needs.{needs}
 use Rattle.channel_writer.proofs.put_info.Statement.{statement}

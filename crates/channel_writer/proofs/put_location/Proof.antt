@@ -1,4 +1,4 @@
--- `write::put_location`: the fields lie side by side from place 77 on.
+-- `put_location`: the fields lie side by side from place 77 on.
 use mathlib.Core.Path.{_∙_}
 use native.Mathlib.Omega.{arith}
 use borrow.Author.Needs.{needs}

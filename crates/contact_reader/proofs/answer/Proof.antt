@@ -1,4 +1,4 @@
--- The verdict chooses what stands beside it.
+-- The validity chooses what stands beside it.
 use borrow.Author.Needs.{needs}
 use Rattle.contact.specs.Contact.{contactAnswer}
 use Rattle.contact_reader.proofs.answer.Statement.{statement}
@@ -16,7 +16,7 @@ returns c = rw (c .before .enum-told .given .1, c .contact-of .ensures)
 
 returns-2 : tie.Need-returns-2
 unfolding contactAnswer
-returns-2 c = rw (c .before .before .verdict .given .1, c .blank .ensures)
+returns-2 c = rw (c .before .before .validity .given .1, c .blank .ensures)
 
 pub answer-spec : {M : Type 1} → statement M
 answer-spec =

@@ -3,7 +3,7 @@ use mathlib.Core.Path.{_∙_}
 use native.Mathlib.Omega.{arith}
 use borrow.Author.Needs.{needs}
 use Rattle.m17.proofs.Laws.{addressNumber-lt}
-use Rattle.contact.proofs.Laws.{m17-given, dmr-given, put-m17, put-dmr}
+use Rattle.contact.proofs.Laws.{m17-writable, dmr-writable, put-m17, put-dmr}
 use Rattle.contact_writer.proofs.put_info.Statement.{statement}
 use Rattle.contact_writer.proofs.put_info.Tie as tie
 
@@ -12,13 +12,13 @@ put-be48-requires c κs =
     let b = c .before .before .before .before in
     let i = b .before .before .before in
     let e = i .before .before .before in
-    (omega arith, rw (c .address-number .ensures) (addressNumber-lt _ (m17-given _ (rw (i .info .given .1) at (e .pre .1 .1)))))
+    (omega arith, rw (c .address-number .ensures) (addressNumber-lt _ (m17-writable _ (rw (i .info .given .1) at (e .pre .1 .1)))))
 
-choice-byte-requires : tie.Need-choice-byte-requires
-choice-byte-requires c κs =
+number-flag-byte-requires : tie.Need-number-flag-byte-requires
+number-flag-byte-requires c κs =
     let i = c .before .before .before .before .before .before .before .before .before .before .before in
     let e = i .before .before .before in
-    rw (c .choice-of .ensures) (dmr-given _ (rw (i .info2 .given .1) at (e .pre .1 .1)))
+    rw (c .settings-number-flag .ensures) (dmr-writable _ (rw (i .info2 .given .1) at (e .pre .1 .1)))
 
 returns : tie.Need-returns
 returns c =
@@ -39,7 +39,7 @@ returns-2 c =
     let e = i .before .before .before in
     rw (i .info2 .given .1)
     (put-dmr (e .args .dst .now) (p .put-byte2 .last .0) (l .put-le32 .last .0) _ _ _ (e .pre .0) (e .pre .1 .0) (p .put-byte2 .ensures)
-    (l .put-le32 .ensures) (b .put-byte3 .ensures) (b .before .choice-byte .ensures ∙ rw (b .before .before .choice-of .ensures)))
+    (l .put-le32 .ensures) (b .put-byte3 .ensures) (b .before .number-flag-byte .ensures ∙ rw (b .before .before .settings-number-flag .ensures)))
 
 pub put-info-spec : {M : Type 1} → statement M
 put-info-spec =
@@ -53,7 +53,7 @@ put-info-spec =
     (search needs)
     (search needs)
     (search needs)
-    choice-byte-requires
+    number-flag-byte-requires
     (search needs)
     (search needs)
     returns

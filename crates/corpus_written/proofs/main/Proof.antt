@@ -8,10 +8,10 @@ use Rattle.corpus_written.proofs.main.Statement.{statement}
 use Rattle.corpus_written.proofs.main.Tie as tie
 
 abbrev Inv-loop : tie.InvT-loop
-Inv-loop buffer₀ room₀ turns₀ buffer room turns = (4096 ≡ length buffer) × ((4096 ≡ length room) × (turns ≤ 1000000))
+Inv-loop buffer₀ scratch₀ turns₀ buffer scratch turns = (4096 ≡ length buffer) × ((4096 ≡ length scratch) × (turns ≤ 1000000))
 
 abbrev μ-loop : tie.MeasureT-loop
-μ-loop buffer₀ room₀ turns₀ buffer room turns = 1000000 - turns
+μ-loop buffer₀ scratch₀ turns₀ buffer scratch turns = 1000000 - turns
 
 pub main-spec : {M : Type 1} → statement M
 main-spec =

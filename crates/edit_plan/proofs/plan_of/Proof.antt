@@ -1,6 +1,6 @@
 -- Each arm knows its kind; a second place that is not used is 0.
 use mathlib.Core.Path.{refl}
-use Rattle.edit_plan.proofs.PlanLaws.{contact-over-there, contact-over, preamble-over, ready-as, ready-at, makes-as, makes-at}
+use Rattle.edit_plan.proofs.PlanLaws.{replace-contact-there, replace-contact, preamble-over, ready-as, ready-at, makes-as, makes-at}
 use native.Mathlib.Omega.{arith}
 use Rattle.edit_plan.proofs.plan_of.Statement.{statement}
 use Rattle.edit_plan.proofs.plan_of.Tie as tie
@@ -9,13 +9,13 @@ contact-place-requires : tie.Need-contact-place-requires
 contact-place-requires c κs =
     let e = c .before .before .before in
     let h = ready-at _ _ _ _ _ refl (c .enum-told3 .given .1) (e .pre) in
-    omega (arith, contact-over-there (e .args .f .now) (e .pre .0 .bytes) (e .args .i) 0 h)
+    omega (arith, replace-contact-there (e .args .f .now) (e .pre .0 .bytes) (e .args .i) 0 h)
 
 returns-3 : tie.Need-returns-3
 returns-3 c =
     let k = c .before .enum-told3 .given .1 in
     let p = c .before .before .before .before .pre in
-    makes-at _ _ _ _ _ _ refl k p (contact-over _ (p .0 .bytes) _ _ (ready-at _ _ _ _ _ refl k p) (c .contact-place .ensures .0))
+    makes-at _ _ _ _ _ _ refl k p (replace-contact _ (p .0 .bytes) _ _ (ready-at _ _ _ _ _ refl k p) (c .contact-place .ensures .0))
 
 returns-12 : tie.Need-returns-12
 returns-12 c =
@@ -50,15 +50,15 @@ plan-of-spec =
     (λ c. c .match .keys11)
     (λ c κs. ready-as _ _ _ _ _ (c .enum-told11 .given .1) (c .before .before .before .pre))
     (λ c. c .match .keys12)
-    (λ c. makes-at _ _ _ _ _ _ refl (c .before .enum-told .given .1) (c .before .before .before .before .pre) (c .contact-in .ensures))
-    (λ c. makes-at _ _ _ _ _ _ refl (c .before .enum-told2 .given .1) (c .before .before .before .before .pre) (c .contact-out .ensures))
+    (λ c. makes-at _ _ _ _ _ _ refl (c .before .enum-told .given .1) (c .before .before .before .before .pre) (c .insert-contact .ensures))
+    (λ c. makes-at _ _ _ _ _ _ refl (c .before .enum-told2 .given .1) (c .before .before .before .before .pre) (c .remove-contact .ensures))
     returns-3
-    (λ c. makes-at _ _ _ _ _ _ refl (c .before .enum-told4 .given .1) (c .before .before .before .before .pre) (c .channel-in .ensures))
-    (λ c. makes-at _ _ _ _ _ _ refl (c .before .enum-told5 .given .1) (c .before .before .before .before .pre) (c .channel-out .ensures))
-    (λ c. makes-at _ _ _ _ _ _ refl (c .before .enum-told6 .given .1) (c .before .before .before .before .pre) (c .channel-over .ensures))
-    (λ c. makes-at _ _ _ _ _ _ refl (c .before .enum-told7 .given .1) (c .before .before .before .before .pre) (c .bank-in .ensures))
-    (λ c. makes-at _ _ _ _ _ _ refl (c .before .enum-told8 .given .1) (c .before .before .before .before .pre) (c .bank-out .ensures))
-    (λ c. makes-at _ _ _ _ _ _ refl (c .before .enum-told9 .given .1) (c .before .before .before .before .pre) (c .bank-over .ensures))
-    (λ c. makes-as _ _ _ _ _ _ (c .before .enum-told10 .given .1) (c .entry-in .ensures))
-    (λ c. makes-as _ _ _ _ _ _ (c .before .enum-told11 .given .1) (c .entry-out .ensures))
+    (λ c. makes-at _ _ _ _ _ _ refl (c .before .enum-told4 .given .1) (c .before .before .before .before .pre) (c .insert-channel .ensures))
+    (λ c. makes-at _ _ _ _ _ _ refl (c .before .enum-told5 .given .1) (c .before .before .before .before .pre) (c .remove-channel .ensures))
+    (λ c. makes-at _ _ _ _ _ _ refl (c .before .enum-told6 .given .1) (c .before .before .before .before .pre) (c .replace-channel .ensures))
+    (λ c. makes-at _ _ _ _ _ _ refl (c .before .enum-told7 .given .1) (c .before .before .before .before .pre) (c .insert-bank .ensures))
+    (λ c. makes-at _ _ _ _ _ _ refl (c .before .enum-told8 .given .1) (c .before .before .before .before .pre) (c .remove-bank .ensures))
+    (λ c. makes-at _ _ _ _ _ _ refl (c .before .enum-told9 .given .1) (c .before .before .before .before .pre) (c .rename-bank .ensures))
+    (λ c. makes-as _ _ _ _ _ _ (c .before .enum-told10 .given .1) (c .insert-entry .ensures))
+    (λ c. makes-as _ _ _ _ _ _ (c .before .enum-told11 .given .1) (c .remove-entry .ensures))
     returns-12)

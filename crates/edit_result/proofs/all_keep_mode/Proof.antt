@@ -1,6 +1,6 @@
 -- The invariant: the channels from the n-th on, which stands at p, answer for all.
 use Rattle.layout.specs.Places.{channelCount, channelPlace}
-use Rattle.edits.specs.Foretold.{keepsMode}
+use Rattle.edits.specs.ResultValidity.{keepsMode}
 use Rattle.fields.proofs.Laws.{each-next, each-bad, each-done}
 use Rattle.fields.specs.Rule.{each}
 use Prim.Native.Nat.{_+_, _*_, _-_, _≤_}

@@ -1,7 +1,7 @@
 -- Each arm knows its kinds: the definition's rule for them.
 use mathlib.Core.Path.{refl}
 use mathlib.Core.List.{[], _∷_}
-use Rattle.plug.proofs.KindLaws.{one-of}
+use Rattle.model.proofs.KindLaws.{one-of}
 use Rattle.edit_result.specs.Growth.{growth}
 use native.Mathlib.Omega.{arith}
 use Rattle.edit_result.proofs.growth.Statement.{statement}

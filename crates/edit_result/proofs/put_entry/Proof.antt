@@ -1,5 +1,5 @@
 -- The index against the channels.
-use Rattle.edit_result.proofs.VerdictLaws.{whole-number}
+use Rattle.edit_result.proofs.ValidityLaws.{whole-number}
 use borrow.Author.Needs.{needs}
 use Rattle.edit_result.proofs.put_entry.Statement.{statement}
 use Rattle.edit_result.proofs.put_entry.Tie as tie

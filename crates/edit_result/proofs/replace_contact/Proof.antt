@@ -1,6 +1,6 @@
 -- The contact first, then the channels that name it.
 use mathlib.Core.Path.{_∙_}
-use Rattle.edit_result.proofs.VerdictLaws.{first-bad, first-rest}
+use Rattle.edit_result.proofs.ValidityLaws.{first-bad, first-rest}
 use borrow.Author.Needs.{needs}
 use Rattle.edit_result.proofs.replace_contact.Statement.{statement}
 use Rattle.edit_result.proofs.replace_contact.Tie as tie
@@ -11,13 +11,13 @@ enum-told c = search needs
 returns : tie.Need-returns
 returns c =
     let b = c .before .before in
-    first-bad _ _ _ _ _ (b .judge .ensures ∙ rw (b .before .contact-place .ensures .0)) (c .enum-told .given .1)
+    first-bad _ _ _ _ _ (b .validate .ensures ∙ rw (b .before .contact-place .ensures .0)) (c .enum-told .given .1)
 
 returns-2 : tie.Need-returns-2
 returns-2 c =
     let t = c .before .before in
     let b = t .before .before in
-    first-rest _ _ _ _ (b .judge .ensures ∙ rw (b .before .contact-place .ensures .0)) (t .enum-told2 .given .1)
+    first-rest _ _ _ _ (b .validate .ensures ∙ rw (b .before .contact-place .ensures .0)) (t .enum-told2 .given .1)
     (rw (c .all-keep-mode .ensures, c .before .byte-at .ensures))
 
 pub replace-contact-spec : {M : Type 1} → statement M

@@ -2,10 +2,10 @@
 use Prim.Native.Nat.{_+_}
 use mathlib.Core.List.{[], _∷_}
 use lib.ListN.{length}
-use Rattle.plug.proofs.KindLaws.{alike}
-use Rattle.edits.specs.Foretold.{resultLength}
+use Rattle.model.proofs.KindLaws.{alike}
+use Rattle.edits.specs.ResultValidity.{resultLength}
 use Rattle.edit_result.proofs.LengthLaws.{bank-fits, channel-fits}
-use Rattle.edit_result.proofs.VerdictLaws.{remove-channel-place, remove-bank-place}
+use Rattle.edit_result.proofs.ValidityLaws.{remove-channel-place, remove-bank-place}
 use Rattle.edit_result.specs.Growth.{growth}
 use native.Mathlib.Nat.{add-zero}
 use native.Mathlib.Omega.{arith}

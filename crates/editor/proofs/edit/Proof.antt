@@ -1,6 +1,6 @@
 -- Refused as it stands or for want of such an edit, or an edit of a known kind.
 use mathlib.Core.Path.{sym, _∙_}
-use Rattle.preconditions.specs.Calls.{lent, asked}
+use Rattle.preconditions.specs.Calls.{stateOf, editRequest}
 use Rattle.editor.proofs.EditLaws.{edit-refused, edit-no-kind, edit-known}
 use borrow.Author.Needs.{needs}
 use Rattle.editor.proofs.edit.Statement.{statement}
@@ -10,8 +10,8 @@ returns : tie.Need-returns
 returns c =
     let t = c .before .before .before in
     let e = t .before .before .before .before .before .before .args in
-    edit-refused (asked (e .kind) (e .first) (e .second) (e .bytes .now)) (lent (e .room .now) (e .len) (e .history .now) (e .used)) _ _ _
-    (t .standing .ensures) (c .before .n .given .1)
+    edit-refused (editRequest (e .kind) (e .first) (e .second) (e .bytes .now)) (stateOf (e .room .now) (e .len) (e .history .now) (e .used)) _ _ _
+    (t .check .ensures) (c .before .n .given .1)
 
 enum-told : tie.Need-enum-told
 enum-told c = search needs
@@ -19,15 +19,15 @@ enum-told c = search needs
 edit-known-requires : tie.Need-edit-known-requires
 edit-known-requires c κs =
     let t = c .before .before .before .before .before .before in
-    sym (t .before .before .standing .ensures) ∙ t .enum-told .given .1
+    sym (t .before .before .check .ensures) ∙ t .enum-told .given .1
 
 returns-2 : tie.Need-returns-2
 returns-2 c =
     let k = c .before .before in
     let t = k .before in
     let e = t .before .before .before .before .before .before .before .before .args in
-    edit-no-kind (asked (e .kind) (e .first) (e .second) (e .bytes .now)) (lent (e .room .now) (e .len) (e .history .now) (e .used)) _
-    (sym (t .before .before .standing .ensures) ∙ t .enum-told .given .1) (k .kind-of .ensures) (c .enum-told2 .given .1)
+    edit-no-kind (editRequest (e .kind) (e .first) (e .second) (e .bytes .now)) (stateOf (e .room .now) (e .len) (e .history .now) (e .used)) _
+    (sym (t .before .before .check .ensures) ∙ t .enum-told .given .1) (k .kind-of .ensures) (c .enum-told2 .given .1)
 
 returns-3 : tie.Need-returns-3
 returns-3 c =
@@ -37,8 +37,8 @@ returns-3 c =
     let t = k .before in
     let e = t .before .before .before .before .before .before .before .before .args in
     x .edit-known .ensures
-    ∙ edit-known (asked (e .kind) (e .first) (e .second) (e .bytes .now)) (lent (e .room .now) (e .len) (e .history .now) (e .used)) _ _
-    (sym (t .before .before .standing .ensures) ∙ t .enum-told .given .1) (k .kind-of .ensures) (n .k .given .1)
+    ∙ edit-known (editRequest (e .kind) (e .first) (e .second) (e .bytes .now)) (stateOf (e .room .now) (e .len) (e .history .now) (e .used)) _ _
+    (sym (t .before .before .check .ensures) ∙ t .enum-told .given .1) (k .kind-of .ensures) (n .k .given .1)
 
 pub edit-spec : {M : Type 1} → statement M
 edit-spec =

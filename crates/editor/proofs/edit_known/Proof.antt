@@ -2,8 +2,8 @@
 use mathlib.Core.Path.{_∙_}
 use lib.ListN.{length, take, length-take}
 use Rattle.plan.specs.Plan.{planned}
-use Rattle.preconditions.proofs.StandLaws.{stand-inside}
-use Rattle.editor.proofs.EditLaws.{stand-accepted, stand-laid, stand-short, Passes, passes, Planned, plans, changes, known-refused, known-full, known-made}
+use Rattle.preconditions.proofs.PreconditionLaws.{preconditions-inside}
+use Rattle.editor.proofs.EditLaws.{preconditions-accepted, preconditions-has-layout, preconditions-short, Passes, passes, Planned, plans, changes, known-refused, known-full, known-made}
 use native.Mathlib.Omega.{arith}
 use borrow.Author.Needs.{needs}
 use Rattle.editor.proofs.edit_known.Statement.{statement}
@@ -29,18 +29,18 @@ plan c =
 slice-reshare-prefix-refusal : tie.Need-slice-reshare-prefix-refusal
 slice-reshare-prefix-refusal c =
     let b = c .before .before .before in
-    stand-inside (b .args .room .now) (b .args .len) (b .args .history .now) (b .args .used) (b .pre) .0
+    preconditions-inside (b .args .room .now) (b .args .len) (b .args .history .now) (b .args .used) (b .pre) .0
 
 slice-aggregate-refusal : tie.Need-slice-aggregate-refusal
 slice-aggregate-refusal c =
     let b = c .before .before .before .before in
-    let i = stand-inside (b .args .room .now) (b .args .len) (b .args .history .now) (b .args .used) (b .pre) in
+    let i = preconditions-inside (b .args .room .now) (b .args .len) (b .args .history .now) (b .args .used) (b .pre) in
     simp length-take (omega arith)
 
 refusal-requires : tie.Need-refusal-requires
 refusal-requires c κs =
     let b = c .before .before .before .before in
-    stand-accepted (b .args .room .now) (b .args .len) (b .args .history .now) (b .args .used) (b .pre)
+    preconditions-accepted (b .args .room .now) (b .args .len) (b .args .history .now) (b .args .used) (b .pre)
 
 returns : tie.Need-returns
 returns c =
@@ -55,12 +55,12 @@ enum-told c = search needs
 slice-reshare-prefix-plan-of : tie.Need-slice-reshare-prefix-plan-of
 slice-reshare-prefix-plan-of c =
     let b = c .before .before .before .before .before .before .before in
-    stand-inside (b .args .room .now) (b .args .len) (b .args .history .now) (b .args .used) (b .pre) .0
+    preconditions-inside (b .args .room .now) (b .args .len) (b .args .history .now) (b .args .used) (b .pre) .0
 
 slice-aggregate-plan-of : tie.Need-slice-aggregate-plan-of
 slice-aggregate-plan-of c =
     let b = c .before .before .before .before .before .before .before .before in
-    let i = stand-inside (b .args .room .now) (b .args .len) (b .args .history .now) (b .args .used) (b .pre) in
+    let i = preconditions-inside (b .args .room .now) (b .args .len) (b .args .history .now) (b .args .used) (b .pre) in
     simp length-take (omega arith)
 
 plan-of-requires : tie.Need-plan-of-requires
@@ -68,23 +68,23 @@ plan-of-requires c κs =
     let s = c .before .before .before .before .before .before .before in
     let b = s .before in
     let p = passed (c .before) in
-    (stand-laid (b .args .room .now) (b .args .len) (b .args .history .now) (b .args .used) (b .pre) (λ n. s .slice-known .given n .fits), (p .place, p .count))
+    (preconditions-has-layout (b .args .room .now) (b .args .len) (b .args .history .now) (b .args .used) (b .pre) (λ n. s .slice-known .given n .fits), (p .place, p .count))
 
 slice-reshare-prefix-span : tie.Need-slice-reshare-prefix-span
 slice-reshare-prefix-span c =
     let b = c .before .before .before .before .before .before .before .before .before in
-    stand-inside (b .args .room .now) (b .args .len) (b .args .history .now) (b .args .used) (b .pre) .0
+    preconditions-inside (b .args .room .now) (b .args .len) (b .args .history .now) (b .args .used) (b .pre) .0
 
 slice-aggregate-span : tie.Need-slice-aggregate-span
 slice-aggregate-span c =
     let b = c .before .before .before .before .before .before .before .before .before .before in
-    let i = stand-inside (b .args .room .now) (b .args .len) (b .args .history .now) (b .args .used) (b .pre) in
+    let i = preconditions-inside (b .args .room .now) (b .args .len) (b .args .history .now) (b .args .used) (b .pre) in
     simp length-take (omega arith)
 
 span-requires : tie.Need-span-requires
 span-requires c κs =
     let b = c .before .before .before .before .before .before .before .before .before .before in
-    let l = stand-short (b .args .room .now) (b .args .len) (b .args .history .now) (b .args .used) (b .pre) in
+    let l = preconditions-short (b .args .room .now) (b .args .len) (b .args .history .now) (b .args .used) (b .pre) in
     (plan (c .before) .fits, omega arith)
 
 entry-size-requires : tie.Need-entry-size-requires

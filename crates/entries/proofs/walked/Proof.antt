@@ -1,4 +1,4 @@
--- `entries::walked` meets its contract: a walk of its MIR, by hand. The `BankWalker` that `walker` returns is held in a local and passed to `moved`, and what `moved` returns is held in another and passed to `next`. All that the proof knows of the three is that each meets its contract.
+-- `entries::walked` meets its contract: a walk of its MIR, by hand. The `BankWalker` that `walker` returns is held in a local and passed to `moved`, and what `moved` returns is held in another and passed to `peek`. All that the proof knows of the three is that each meets its contract.
 -- The machine values are stored and passed on as they are. In a local of a body MIR erases the lifetime of the struct's type, so each is shown to have the type at `erased`: what the struct owns does not say the lifetime's name.
 -- Assumes nothing.
 use mathlib.Core.Path.{_≡_, refl, ap, _∙_}
@@ -53,10 +53,10 @@ use Rattle.entries.proofs.moved as moved
 use Rattle.entries.proofs.moved.Symbol as moved-def
 use Rattle.entries.proofs.moved.Symbol.{name as #entries·moved}
 use Rattle.entries.proofs.moved.Met as moved-thm
-use Rattle.entries.proofs.next as next
-use Rattle.entries.proofs.next.Symbol as next-def
-use Rattle.entries.proofs.next.Symbol.{name as #entries·next}
-use Rattle.entries.proofs.next.Met as next-thm
+use Rattle.entries.proofs.peek as peek
+use Rattle.entries.proofs.peek.Symbol as peek-def
+use Rattle.entries.proofs.peek.Symbol.{name as #entries·peek}
+use Rattle.entries.proofs.peek.Met as peek-thm
 use Rattle.entries.proofs.walked.Key.{name as #entries·walked}
 use Rattle.entries.proofs.walked as walked
 use Rattle.entries.proofs.walked.Statement as stated
@@ -77,8 +77,8 @@ module _ {M : Type 1} (𝓤 : URA M) (H : Heap 𝓤) (A : Atoms 𝓤) (mem : Mem
   abbrev Moved : Contract 𝓤
   Moved = tripleOf 𝓤 H A moved.signature (moved.spec 𝓤 H A mem run)
 
-  abbrev Next : Contract 𝓤
-  Next = tripleOf 𝓤 H A next.signature (next.spec 𝓤 H A mem run)
+  abbrev Peek : Contract 𝓤
+  Peek = tripleOf 𝓤 H A peek.signature (peek.spec 𝓤 H A mem run)
 
 module _ {M : Type 1} (𝓤 : URA M) (H : Heap 𝓤) (A : Atoms 𝓤) (W : Given 𝓤 H A) (mem : Memory → SProp 𝓤) (run : Routine → Fun 𝓤) (κ : Lft) (q : Share) (s : RefT (List ℕ)) (i : ℕ) (ok : i < 2 ^ 64) where
   -- the machine value that s has
@@ -127,15 +127,15 @@ module _ {M : Type 1} (𝓤 : URA M) (H : Heap 𝓤) (A : Atoms 𝓤) (W : Given
   moved-said : (r p : BankWalker) → ent 𝓤 (ensured 𝓤 H A moved.ended (moved.clauses 𝓤 H A mem run) (κ, tt) (r, (i, tt)) tt p) (fact 𝓤 ((p .entries ≡ r .entries) × (p .at ≡ i)))
   moved-said r p = exE 𝓤 _ (λ ws. snd∗ 𝓤 (sem 𝓤 H A (lasts moved.ended (κ, tt) (r, (i, tt)) ws)) (fact 𝓤 ((p .entries ≡ r .entries) × (p .at ≡ i))))
 
-  -- the call of `next`, at the struct p with the machine value u
-  abbrev to-next : BankWalker → Val → Next 𝓤 H A mem run .Ghost
-  to-next p u = (((κ, tt), (q, tt), tt, (p, tt), (u ∷ [], tt)), tt)
+  -- the call of `peek`, at the struct p with the machine value u
+  abbrev to-peek : BankWalker → Val → Peek 𝓤 H A mem run .Ghost
+  to-peek p u = (((κ, tt), (q, tt), tt, (p, tt), (u ∷ [], tt)), tt)
 
-  goes-next : (p : BankWalker) (u : Val) → ent 𝓤 (⋆ 𝓤 H A (‵ (B (κ, tt) .own p (u ∷ [])) ∷ (‵ (flft κ q) ⊛ ‵ ftrue) ∷ [])) (Next 𝓤 H A mem run .pre (to-next p u))
-  goes-next p u = qed W (‵ (B (κ, tt) .own p (u ∷ [])) ∷ (‵ (flft κ q) ⊛ ‵ ftrue) ∷ []) ∵ nothing ! $ move ! (1 ∷ 0 ∷ []) $ fjoin ! $ move ! (1 ∷ 0 ∷ []) $ join ! $ frame ! $ done !
+  goes-peek : (p : BankWalker) (u : Val) → ent 𝓤 (⋆ 𝓤 H A (‵ (B (κ, tt) .own p (u ∷ [])) ∷ (‵ (flft κ q) ⊛ ‵ ftrue) ∷ [])) (Peek 𝓤 H A mem run .pre (to-peek p u))
+  goes-peek p u = qed W (‵ (B (κ, tt) .own p (u ∷ [])) ∷ (‵ (flft κ q) ⊛ ‵ ftrue) ∷ []) ∵ nothing ! $ move ! (1 ∷ 0 ∷ []) $ fjoin ! $ move ! (1 ∷ 0 ∷ []) $ join ! $ frame ! $ done !
 
-  next-said : (p : BankWalker) (t : EntryStep) → ent 𝓤 (ensured 𝓤 H A next.ended (next.clauses 𝓤 H A mem run) (κ, tt) (p, tt) tt t) (fact 𝓤 (t ≡ entryStep (now (p .entries)) (p .at)))
-  next-said p t = exE 𝓤 _ (λ ws. snd∗ 𝓤 (sem 𝓤 H A (lasts next.ended (κ, tt) (p, tt) ws)) (fact 𝓤 (t ≡ entryStep (now (p .entries)) (p .at))))
+  peek-said : (p : BankWalker) (t : EntryStep) → ent 𝓤 (ensured 𝓤 H A peek.ended (peek.clauses 𝓤 H A mem run) (κ, tt) (p, tt) tt t) (fact 𝓤 (t ≡ entryStep (now (p .entries)) (p .at)))
+  peek-said p t = exE 𝓤 _ (λ ws. snd∗ 𝓤 (sem 𝓤 H A (lasts peek.ended (κ, tt) (p, tt) ws)) (fact 𝓤 (t ≡ entryStep (now (p .entries)) (p .at))))
 
   -- the three contracts together
   says-found : (r p : BankWalker) (t : EntryStep) → r .entries ≡ s → (p .entries ≡ r .entries) × (p .at ≡ i) → t ≡ entryStep (now (p .entries)) (p .at) → t ≡ found
@@ -147,7 +147,7 @@ module _ {M : Type 1} (𝓤 : URA M) (H : Heap 𝓤) (A : Atoms 𝓤) (W : Given
       suffices ! _ (ends-at 𝓤 H A walked.ended stayed (walked.clauses 𝓤 H A mem run) W (((κ, tt), (q, tt), tt, (s, (i, tt)), at), tt) u t (tt, (tt, tt)) (tt, (tt, tt))) $ says ! e $
       move ! (1 ∷ []) $ frame ! $ nothing ! $ owned ! usize (Is usize) (uint-makes 𝓤 H A W w64) i _ (refl, ok) $ fjoin ! $ move ! (2 ∷ 0 ∷ []) $ fjoin ! $ frame ! $ done !
 
-  module _ (C : Calls 𝓤 H) (Λ : Loops 𝓤 H) (fm : FmC 𝓤 H (W .laws) C) (known-walker : Triple 𝓤 (C #entries·walker) (Walker 𝓤 H A mem run)) (known-moved : Triple 𝓤 (C #entries·moved) (Moved 𝓤 H A mem run)) (known-next : Triple 𝓤 (C #entries·next) (Next 𝓤 H A mem run)) where
+  module _ (C : Calls 𝓤 H) (Λ : Loops 𝓤 H) (fm : FmC 𝓤 H (W .laws) C) (known-walker : Triple 𝓤 (C #entries·walker) (Walker 𝓤 H A mem run)) (known-moved : Triple 𝓤 (C #entries·moved) (Moved 𝓤 H A mem run)) (known-peek : Triple 𝓤 (C #entries·peek) (Peek 𝓤 H A mem run)) where
     walk : Is (ShrSlice (named 0) κ u8) s (v ∷ []) → ent 𝓤 (onEntry 𝓤 H A walked.signature (κ, tt) (q, tt) (s, (i, tt)) at) (WpFn 𝓤 H C Λ code.function (v ∷ vint w64 i ∷ []) Post)
     walk ps =
         qed W (raw (onEntry 𝓤 H A walked.signature (κ, tt) (q, tt) (s, (i, tt)) at) ∷ []) ∵ enter ! C Λ code.function (v ∷ vint w64 i ∷ []) _ $
@@ -168,10 +168,10 @@ module _ {M : Type 1} (𝓤 : URA M) (H : Heap 𝓤) (A : Atoms 𝓤) (W : Given
         -- [what p owns; the token; what s owns; _4; …; room for _3; …; _2; …; _1; …; room for _0; …]
         peeks ! (B (κ, tt)) (Is (B (κ, tt))) (shows 𝓤 H A (B (κ, tt))) p (u′ ∷ []) (λ is′.
         land ! (from ! (stop !)) (init ! 5 refl (LL.lawful (T.the-type αᵉ) (T′.the-laws αᵉ) 𝓤 H A W .typed p _ is′ .0)) $
-        use2 W (raw (Next 𝓤 H A mem run .pre (to-next p u′))) (goes-next p u′) $
-        calls-at ! fm (Next 𝓤 H A mem run) known-next (to-next p u′) (and-then ! (load ! (from ! (stop !)) (look ! 4 refl)) (no-more !)) (λ u″.
-        use1 W (later (some (λ (t : EntryStep). ((‵ (flft κ q) ⊛ ‵ ftrue) ⊛ ‵ (S.the-row .own t (u″ ∷ []))) ⊛ raw (ensured 𝓤 H A next.ended (next.clauses 𝓤 H A mem run) (κ, tt) (p, tt) tt t)))) (id⊢ 𝓤 _) $ await ! tt $ pick ! (λ t.
-        split ! $ move ! (1 ∷ []) $ use1 W (raw (fact 𝓤 (t ≡ entryStep (now (p .entries)) (p .at)))) (next-said p t) $ heard ! (t ≡ entryStep (now (p .entries)) (p .at)) (λ e″. split ! $ move ! (1 ∷ []) $
+        use2 W (raw (Peek 𝓤 H A mem run .pre (to-peek p u′))) (goes-peek p u′) $
+        calls-at ! fm (Peek 𝓤 H A mem run) known-peek (to-peek p u′) (and-then ! (load ! (from ! (stop !)) (look ! 4 refl)) (no-more !)) (λ u″.
+        use1 W (later (some (λ (t : EntryStep). ((‵ (flft κ q) ⊛ ‵ ftrue) ⊛ ‵ (S.the-row .own t (u″ ∷ []))) ⊛ raw (ensured 𝓤 H A peek.ended (peek.clauses 𝓤 H A mem run) (κ, tt) (p, tt) tt t)))) (id⊢ 𝓤 _) $ await ! tt $ pick ! (λ t.
+        split ! $ move ! (1 ∷ []) $ use1 W (raw (fact 𝓤 (t ≡ entryStep (now (p .entries)) (p .at)))) (peek-said p t) $ heard ! (t ≡ entryStep (now (p .entries)) (p .at)) (λ e″. split ! $ move ! (1 ∷ []) $
         -- [the result; the token; what s owns; _4; …; _3; …; _2; …; _1; …; room for _0; …]
         peeks ! S.the-row (Is S.the-row) (shows 𝓤 H A S.the-row) t (u″ ∷ []) (λ is″.
         land ! (from ! (stop !)) (init ! 11 refl (EL.lawful S.the-type S′.the-laws 𝓤 H A W tt .typed t _ is″ .0)) $
@@ -180,16 +180,16 @@ module _ {M : Type 1} (𝓤 : URA M) (H : Heap 𝓤) (A : Atoms 𝓤) (W : Given
         by ! (exits t u″ (says-found r p t (e .0) e′ e″)))))))))))))))))))
 
 module _ {M : Type 1} (𝓤 : URA M) (H : Heap 𝓤) (A : Atoms 𝓤) (W : Given 𝓤 H A) (mem : Memory → SProp 𝓤) (run : Routine → Fun 𝓤) where
-  walked-walks : (C : Calls 𝓤 H) (Λ : Loops 𝓤 H) → FmC 𝓤 H (W .laws) C → Triple 𝓤 (C #entries·walker) (Walker 𝓤 H A mem run) → Triple 𝓤 (C #entries·moved) (Moved 𝓤 H A mem run) → Triple 𝓤 (C #entries·next) (Next 𝓤 H A mem run)
+  walked-walks : (C : Calls 𝓤 H) (Λ : Loops 𝓤 H) → FmC 𝓤 H (W .laws) C → Triple 𝓤 (C #entries·walker) (Walker 𝓤 H A mem run) → Triple 𝓤 (C #entries·moved) (Moved 𝓤 H A mem run) → Triple 𝓤 (C #entries·peek) (Peek 𝓤 H A mem run)
       → Walks 𝓤 H A walked.ended stayed (WpFn 𝓤 H C Λ code.function) (walked.clauses 𝓤 H A mem run)
-  walked-walks C Λ fm known-walker known-moved known-next = from-walk 𝓤 H A walked.ended stayed (walked.clauses 𝓤 H A mem run) (WpFn 𝓤 H C Λ code.function) (λ κs. (slice-vals, (uint-vals w64, tt))) (λ κs. (shr-slice-tells (named 0) (κs .0) u8, (uint-tells w64, tt)))
-      (λ κs qs bounds a g are. via 𝓤 _ (fst∗ 𝓤 _ (emp 𝓤)) (walk 𝓤 H A W mem run (κs .0) (qs .0) (a .0) (a .1 .0) (are .1 .0 .1) C Λ fm known-walker known-moved known-next (are .0)))
+  walked-walks C Λ fm known-walker known-moved known-peek = from-walk 𝓤 H A walked.ended stayed (walked.clauses 𝓤 H A mem run) (WpFn 𝓤 H C Λ code.function) (λ κs. (slice-vals, (uint-vals w64, tt))) (λ κs. (shr-slice-tells (named 0) (κs .0) u8, (uint-tells w64, tt)))
+      (λ κs qs bounds a g are. via 𝓤 _ (fst∗ 𝓤 _ (emp 𝓤)) (walk 𝓤 H A W mem run (κs .0) (qs .0) (a .0) (a .1 .0) (are .1 .0 .1) C Λ fm known-walker known-moved known-peek (are .0)))
 
 walked-meets : {M : Type 1} (𝓤 : URA M) (H : Heap 𝓤) (A : Atoms 𝓤) (W : Given 𝓤 H A) (mem : Memory → SProp 𝓤) (run : Routine → Fun 𝓤) (𝓣 : Tables 𝓤 H)
-    → Triple 𝓤 (𝓣 .C #entries·walker) (Walker 𝓤 H A mem run) → Triple 𝓤 (𝓣 .C #entries·moved) (Moved 𝓤 H A mem run) → Triple 𝓤 (𝓣 .C #entries·next) (Next 𝓤 H A mem run)
+    → Triple 𝓤 (𝓣 .C #entries·walker) (Walker 𝓤 H A mem run) → Triple 𝓤 (𝓣 .C #entries·moved) (Moved 𝓤 H A mem run) → Triple 𝓤 (𝓣 .C #entries·peek) (Peek 𝓤 H A mem run)
     → Meets 𝓤 H A walked.signature (WpFn 𝓤 H (𝓣 .C) (𝓣 .Λ) code.function) (walked.spec 𝓤 H A mem run)
-walked-meets 𝓤 H A W mem run 𝓣 known-walker known-moved known-next = walk-meets 𝓤 H A walked.ended stayed W (goes-none-slice 𝓤 H A W 1 (0 ∷ []) tt (plain (λ _. u8)) yes, (goes-none 𝓤 H A W 1 (λ _. usize) yes (λ κs x f. refl), tt)) (walked.clauses 𝓤 H A mem run) (WpFn 𝓤 H (𝓣 .C) (𝓣 .Λ) code.function) (WpFn-mono 𝓤 H (W .laws) 𝓣 code.function)
-    (walked-walks 𝓤 H A W mem run (𝓣 .C) (𝓣 .Λ) (fmOf 𝓤 H (W .laws) 𝓣) known-walker known-moved known-next)
+walked-meets 𝓤 H A W mem run 𝓣 known-walker known-moved known-peek = walk-meets 𝓤 H A walked.ended stayed W (goes-none-slice 𝓤 H A W 1 (0 ∷ []) tt (plain (λ _. u8)) yes, (goes-none 𝓤 H A W 1 (λ _. usize) yes (λ κs x f. refl), tt)) (walked.clauses 𝓤 H A mem run) (WpFn 𝓤 H (𝓣 .C) (𝓣 .Λ) code.function) (WpFn-mono 𝓤 H (W .laws) 𝓣 code.function)
+    (walked-walks 𝓤 H A W mem run (𝓣 .C) (𝓣 .Λ) (fmOf 𝓤 H (W .laws) 𝓣) known-walker known-moved known-peek)
 
 pub walked-spec : {M : Type 1} → stated.statement M
 unfolding code.routine tablesOf
@@ -199,4 +199,4 @@ walked-spec 𝓤 H 𝓜 𝓖 𝓡 =
     (walked-meets 𝓤 H (𝓖 .A) (givenOf 𝓤 H 𝓜 𝓖) (𝓜 .mem) (𝓡 .run) (tablesOf 𝓤 H 𝓜 (tables 𝓤 H 𝓜 𝓡 code.env))
     (cited 𝓤 H (Walker 𝓤 H (𝓖 .A) (𝓜 .mem) (𝓡 .run)) 𝓜 𝓡 code.env #entries·walker walker-def.routine code.calls-entries·walker (walker-thm.met 𝓤 H 𝓜 𝓖 𝓡))
     (cited 𝓤 H (Moved 𝓤 H (𝓖 .A) (𝓜 .mem) (𝓡 .run)) 𝓜 𝓡 code.env #entries·moved moved-def.routine code.calls-entries·moved (moved-thm.met 𝓤 H 𝓜 𝓖 𝓡))
-    (cited 𝓤 H (Next 𝓤 H (𝓖 .A) (𝓜 .mem) (𝓡 .run)) 𝓜 𝓡 code.env #entries·next next-def.routine code.calls-entries·next (next-thm.met 𝓤 H 𝓜 𝓖 𝓡)))
+    (cited 𝓤 H (Peek 𝓤 H (𝓖 .A) (𝓜 .mem) (𝓡 .run)) 𝓜 𝓡 code.env #entries·peek peek-def.routine code.calls-entries·peek (peek-thm.met 𝓤 H 𝓜 𝓖 𝓡)))

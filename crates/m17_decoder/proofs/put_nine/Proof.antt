@@ -4,7 +4,7 @@ use mathlib.Core.Path.{_≡_, _∙_}
 use mathlib.Core.List.{_++_}
 use lib.ListN.{length, take, drop, length-set}
 use lib.Seq.{take-all}
-use Rattle.m17.proofs.Laws.{nine-turn}
+use Rattle.m17.proofs.Laws.{nine-step}
 use borrow.Author.Needs.{needs}
 use native.Mathlib.Omega.{arith}
 use Rattle.m17_decoder.proofs.put_nine.Statement.{statement}
@@ -22,7 +22,7 @@ loop-again c =
     let k : length (e .args .t2) ≡ 9 = e .good .1 .0 .1 .0 .1 in (
       search needs,
       simp length-set (c .before .loop .inv .1),
-      nine-turn (c .before .loop .out) (e .args .out .now) (e .args .t2) (c .before .loop .i) (c .before .loop .inv .2) (omega arith) (omega arith),
+      nine-step (c .before .loop .out) (e .args .out .now) (e .args .t2) (c .before .loop .i) (c .before .loop .inv .2) (omega arith) (omega arith),
     )
 
 returns : tie.Need-returns Inv-loop μ-loop

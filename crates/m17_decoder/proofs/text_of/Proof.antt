@@ -5,7 +5,7 @@ use mathlib.Core.List.{_++_, []}
 use lib.ListN.{length, take, drop, replicate, length-set}
 use borrow.Author.Tests.{ltb-true, ltb-false}
 use Rattle.m17.specs.Address.{textFor, textUpTo}
-use Rattle.m17.proofs.Laws.{text-turn, zeros-turn, text-done, text-zero}
+use Rattle.m17.proofs.Laws.{text-step, zeros-step, text-done, text-zero}
 use borrow.Author.Needs.{needs}
 use native.Mathlib.Omega.{arith}
 use Rattle.m17_decoder.proofs.text_of.Statement.{statement}
@@ -47,8 +47,8 @@ loop-again c =
     rw (c .character .ensures) (
       length-set (l .bytes) (l .len) _ ∙ l .inv .0,
       omega arith,
-      text-turn n (l .bytes) (l .len) (l .rest) (l .inv .0) low (c .before .before .before .loop-test .taken) (l .inv .2),
-      zeros-turn n (l .bytes) (l .len) (l .rest) (l .inv .0) low _ (l .inv .3),
+      text-step n (l .bytes) (l .len) (l .rest) (l .inv .0) low (c .before .before .before .loop-test .taken) (l .inv .2),
+      zeros-step n (l .bytes) (l .len) (l .rest) (l .inv .0) low _ (l .inv .3),
     )
 
 returns : tie.Need-returns Inv-loop μ-loop

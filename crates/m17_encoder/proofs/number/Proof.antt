@@ -5,7 +5,7 @@ use lib.ListN.{length, drop}
 use lib.Seq.{drop-length}
 use borrow.Author.Tests.{lt-ltb, le-ltb}
 use Rattle.m17.specs.Address.{addressOf, firstForeign}
-use Rattle.m17.proofs.Laws.{address-room, address-turn, foreign-at, native-turn}
+use Rattle.m17.proofs.Laws.{address-room, address-step, foreign-at, native-step}
 use borrow.Author.Needs.{needs}
 use native.Mathlib.Omega.{arith}
 use Rattle.m17_encoder.proofs.number.Statement.{statement}
@@ -52,8 +52,8 @@ loop-again c =
     let s = l .before .before .before .args .s .now in
     let some = c .before .before .before .before .loop-test .taken in (
       search needs,
-      rw (address-turn s (l .loop .i) some (l .loop .inv .0), ← l .loop .inv .1, ← c .before .digit .ensures .0),
-      native-turn s (l .loop .i) some (l .loop .inv .0) (omega arith) (l .loop .inv .2),
+      rw (address-step s (l .loop .i) some (l .loop .inv .0), ← l .loop .inv .1, ← c .before .digit .ensures .0),
+      native-step s (l .loop .i) some (l .loop .inv .0) (omega arith) (l .loop .inv .2),
     )
 
 returns-2 : tie.Need-returns-2 Inv-loop μ-loop

@@ -1,39 +1,39 @@
 -- Each kind of change by its own function.
 use native.Mathlib.Omega.{arith}
-use Rattle.plan_apply.proofs.MakeLaws.{replace-asked, contacts-asked, channels-asked, entries-asked, bank-asked, drop-asked, replaced}
+use Rattle.plan_apply.proofs.MakeLaws.{replace-has-room, contacts-has-room, channels-has-room, entries-has-room, bank-has-room, drop-has-room, replaced}
 use Rattle.plan_apply.proofs.make.Statement.{statement}
 use Rattle.plan_apply.proofs.make.Tie as tie
 
 put-requires : tie.Need-put-requires
 put-requires c κs =
     let s = c .before .before .before .before .before .before in
-    replace-asked (s .args .p) (s .args .r .now) (s .args .len) (s .args .d .now) (s .pre) _ (c .before .before .p .given .1)
+    replace-has-room (s .args .p) (s .args .r .now) (s .args .len) (s .args .d .now) (s .pre) _ (c .before .before .p .given .1)
 
 make-contacts-requires : tie.Need-make-contacts-requires
 make-contacts-requires c κs =
     let s = c .before .before .before .before .before .before in
-    contacts-asked (s .args .p) (s .args .r .now) (s .args .len) (s .args .d .now) (s .pre) _ _ (c .before .before .p2 .given .1)
+    contacts-has-room (s .args .p) (s .args .r .now) (s .args .len) (s .args .d .now) (s .pre) _ _ (c .before .before .p2 .given .1)
 
 make-channels-requires : tie.Need-make-channels-requires
 make-channels-requires c κs =
     let s = c .before .before .before .before .before .before in
-    channels-asked (s .args .p) (s .args .r .now) (s .args .len) (s .args .d .now) (s .pre) _ _ (c .before .before .p3 .given .1)
+    channels-has-room (s .args .p) (s .args .r .now) (s .args .len) (s .args .d .now) (s .pre) _ _ (c .before .before .p3 .given .1)
     (λ i. c .before .before .before .before .before .slice-known .given i .fits)
 
 make-entries-requires : tie.Need-make-entries-requires
 make-entries-requires c κs =
     let s = c .before .before .before .before .before .before in
-    entries-asked (s .args .p) (s .args .r .now) (s .args .len) (s .args .d .now) (s .pre) _ _ (c .before .before .p4 .given .1)
+    entries-has-room (s .args .p) (s .args .r .now) (s .args .len) (s .args .d .now) (s .pre) _ _ (c .before .before .p4 .given .1)
 
 make-bank-requires : tie.Need-make-bank-requires
 make-bank-requires c κs =
     let s = c .before .before .before .before .before .before in
-    bank-asked (s .args .p) (s .args .r .now) (s .args .len) (s .args .d .now) (s .pre) _ _ _ _ (c .before .before .p5 .given .1)
+    bank-has-room (s .args .p) (s .args .r .now) (s .args .len) (s .args .d .now) (s .pre) _ _ _ _ (c .before .before .p5 .given .1)
 
 drop-bank-requires : tie.Need-drop-bank-requires
 drop-bank-requires c κs =
     let s = c .before .before .before .before .before .before in
-    drop-asked (s .args .p) (s .args .r .now) (s .args .len) (s .args .d .now) (s .pre) _ _ _ (c .before .before .p6 .given .1)
+    drop-has-room (s .args .p) (s .args .r .now) (s .args .len) (s .args .d .now) (s .pre) _ _ _ (c .before .before .p6 .given .1)
 
 returns : tie.Need-returns
 returns c =

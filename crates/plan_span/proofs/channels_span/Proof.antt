@@ -6,7 +6,7 @@ use Rattle.plan.specs.Plan.{planned}
 use Rattle.plan.specs.Fits.{Fits}
 use Rattle.renumber.specs.Shift.{shiftOf}
 use Rattle.plan.proofs.Laws.{banks-inside}
-use Rattle.plan_span.proofs.FollowLaws.{Follows, entries-follow}
+use Rattle.plan_span.proofs.RenumberedLaws.{Renumbered, entries-follow}
 use Rattle.plan_span.proofs.channels_span.Statement.{statement}
 use Rattle.plan_span.proofs.channels_span.Tie as tie
 
@@ -18,7 +18,7 @@ last-entry-requires c κs =
 
 last : (c : tie.After-last-entry)
     → (let e = c .before .before .before .before .before .args in
-    Follows (e .s) (e .c) (e .r .now) (e .f .now) (planned (Channels (e .s) (e .c)) (e .r .now) (e .f .now)) (c .last-entry .result))
+    Renumbered (e .s) (e .c) (e .r .now) (e .f .now) (planned (Channels (e .s) (e .c)) (e .r .now) (e .f .now)) (c .last-entry .result))
 last c =
     let s = c .before .before .before .before .before in
     entries-follow (s .args .s) (s .args .c) (s .args .r .now) (s .args .f .now) _ _ _ (c .before .before .banks-place .ensures .0)

@@ -5,7 +5,7 @@ use Rattle.plan.specs.declared.Plan.the-variants.{Contacts}
 use Rattle.plan.specs.Plan.{planned}
 use Rattle.plan.specs.Fits.{Fits}
 use Rattle.renumber.specs.Shift.{shiftOf}
-use Rattle.plan_span.proofs.FollowLaws.{Follows, contacts-follow}
+use Rattle.plan_span.proofs.RenumberedLaws.{Renumbered, contacts-follow}
 use Rattle.plan_span.proofs.contacts_span.Statement.{statement}
 use Rattle.plan_span.proofs.contacts_span.Tie as tie
 
@@ -15,7 +15,7 @@ last-contact-requires c κs = (omega arith, omega arith)
 
 last : (c : tie.After-last-contact)
     → (let e = c .before .before .before .before .before .args in
-    Follows (e .s) (e .c) (e .r .now) (e .f .now) (planned (Contacts (e .s) (e .c)) (e .r .now) (e .f .now)) (c .last-contact .result))
+    Renumbered (e .s) (e .c) (e .r .now) (e .f .now) (planned (Contacts (e .s) (e .c)) (e .r .now) (e .f .now)) (c .last-contact .result))
 last c =
     let s = c .before .before .before .before .before in
     contacts-follow (s .args .s) (s .args .c) (s .args .r .now) (s .args .f .now) _ _ _ (c .before .before .channel-place .ensures .0)

@@ -4,13 +4,13 @@ use Rattle.plan_span.proofs.MeasureLaws.{CountedMeasured, counted-alone
 use Rattle.plan_span.proofs.counted_span.Statement.{statement}
 use Rattle.plan_span.proofs.counted_span.Tie as tie
 
-measured : (c : tie.After-common-end3)
+measured : (c : tie.After-common-suffix3)
     → (let e = c .before .before .before .before .before .before .before .before .args in
-    CountedMeasured (e .c) (e .r .now) (e .f .now) (c .common-end3 .result))
+    CountedMeasured (e .c) (e .r .now) (e .f .now) (c .common-suffix3 .result))
 measured c =
     let s = c .before .before .before .before .before .before .before .before in
     counted-alone (s .args .c) (s .args .r .now) (s .args .f .now) _ _ (s .pre) (c .before .before .before .before .bytes16 .ensures)
-    (c .common-end3 .ensures)
+    (c .common-suffix3 .ensures)
 
 pub counted-span-spec : {M : Type 1} → statement M
 counted-span-spec =

@@ -8,18 +8,18 @@ use Rattle.plan_span.proofs.MeasureLaws.{Measured, Replaced, replaced}
 use Rattle.plan_span.proofs.replace_span.Statement.{statement}
 use Rattle.plan_span.proofs.replace_span.Tie as tie
 
-started : (c : tie.After-common-start)
+started : (c : tie.After-common-prefix)
     → (let e = c .before .before .before .before .args in
-    Replaced (e .f .now) (e .r .now) (e .at) (c .common-start .result) (between (e .f .now) (e .at) (e .at + length (e .r .now))))
+    Replaced (e .f .now) (e .r .now) (e .at) (c .common-prefix .result) (between (e .f .now) (e .at) (e .at + length (e .r .now))))
 started c =
     let s = c .before .before .before .before in
-    replaced (s .args .f .now) (s .args .r .now) (s .args .at) _ (s .pre) (c .common-start .ensures)
+    replaced (s .args .f .now) (s .args .r .now) (s .args .at) _ (s .pre) (c .common-prefix .ensures)
 
-measured : (c : tie.After-common-end)
+measured : (c : tie.After-common-suffix)
     → (let e = c .before .before .before .before .before .before .before .before .args in
-    Measured (e .f .now) (over (e .f .now) (e .at) (e .r .now)) (e .at + c .before .before .before .before .common-start .result)
-    (length (e .f .now) - (e .at + length (e .r .now)) + c .common-end .result) (length (e .f .now)))
-measured c = started (c .before .before .before .before) .differs (c .before .before .before .if1 .left) _ (c .common-end .ensures)
+    Measured (e .f .now) (over (e .f .now) (e .at) (e .r .now)) (e .at + c .before .before .before .before .common-prefix .result)
+    (length (e .f .now) - (e .at + length (e .r .now)) + c .common-suffix .result) (length (e .f .now)))
+measured c = started (c .before .before .before .before) .differs (c .before .before .before .if1 .left) _ (c .common-suffix .ensures)
 
 pub replace-span-spec : {M : Type 1} → statement M
 replace-span-spec =

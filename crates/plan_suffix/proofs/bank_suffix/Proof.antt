@@ -9,13 +9,13 @@ use Rattle.plan_suffix.proofs.bank_suffix.Tie as tie
 small : (c : tie.After-struct-known) → length (c .before .before .before .before .before .args .f .now) < 2 ^ 64
 small c = omega arith
 
-left : (c : tie.After-common-end3)
+left : (c : tie.After-common-suffix3)
     → (let e = c .before .before .before .before .before .before .before .before .before .before .args in
-    BankLeft (e .t) (e .k) (e .c) (e .a .now) (e .b .now) (e .added .now) (e .f .now) (c .common-end3 .result))
+    BankLeft (e .t) (e .k) (e .c) (e .a .now) (e .b .now) (e .added .now) (e .f .now) (c .common-suffix3 .result))
 left c =
     let s = c .before .before .before .before .before .before .before .before .before .before in
     bank-left (s .args .t) (s .args .k) (s .args .c) (s .args .a .now) (s .args .b .now) (s .args .added .now) (s .args .f .now) _ (s .pre)
-    (c .common-end3 .ensures)
+    (c .common-suffix3 .ensures)
 
 table-suffix-requires : tie.Need-table-suffix-requires
 table-suffix-requires c κs =

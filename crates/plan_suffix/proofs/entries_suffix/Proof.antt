@@ -9,26 +9,26 @@ use Rattle.plan_suffix.proofs.entries_suffix.Tie as tie
 small : (c : tie.After-struct-known) → length (c .before .before .before .args .f .now) < 2 ^ 64
 small c = omega arith
 
-left : (c : tie.After-common-end4)
+left : (c : tie.After-common-suffix4)
     → (let e = c .before .before .before .before .before .before .before .before .before .before .args in
-    EntriesLeft (e .t) (e .c) (e .r .now) (e .f .now) (c .common-end4 .result))
+    EntriesLeft (e .t) (e .c) (e .r .now) (e .f .now) (c .common-suffix4 .result))
 left c =
     let s = c .before .before .before .before .before .before .before .before .before .before in
     entries-left (s .args .t) (s .args .c) (s .args .r .now) (s .args .f .now) _ _ (s .pre) (c .before .before .before .before .before .bytes16 .ensures)
-    (c .common-end4 .ensures)
+    (c .common-suffix4 .ensures)
 
 sub-if1 : tie.Need-sub-if1
 sub-if1 c =
     let s = c .before .before .before .before .before .before .before .before .before .before in
     entries-order (s .args .t) (s .args .c) _ (s .pre)
 
-common-end-offsets-requires : tie.Need-common-end-offsets-requires
-common-end-offsets-requires c κs =
+common-suffix-offsets-requires : tie.Need-common-suffix-offsets-requires
+common-suffix-offsets-requires c κs =
     let s = c .before .before .before .before .before .before .before .before .before .before .before .before in
     entries-table (s .args .t) (s .args .c) _ (s .pre)
 
 returns-2 : tie.Need-returns-2
-returns-2 c = left (c .before .before .before) .goes (c .before .before .if1 .left) _ (c .common-end-offsets .ensures)
+returns-2 c = left (c .before .before .before) .goes (c .before .before .if1 .left) _ (c .common-suffix-offsets .ensures)
 
 pub entries-suffix-spec : {M : Type 1} → statement M
 entries-suffix-spec =
@@ -57,6 +57,6 @@ entries-suffix-spec =
     (λ c. left (c .before) .rest)
     (λ c. left (c .before) .rest)
     (λ c. left (c .before) .inside)
-    common-end-offsets-requires
-    (λ c. word (left (c .before .before .before) .fits _ (c .common-end-offsets .ensures)) (small (c .before .before .before .before .before .before .before .before .before .before)))
+    common-suffix-offsets-requires
+    (λ c. word (left (c .before .before .before) .fits _ (c .common-suffix-offsets .ensures)) (small (c .before .before .before .before .before .before .before .before .before .before)))
     returns-2)

@@ -1,6 +1,6 @@
 -- The invariant: i channels are moved, and what stands from p on is as it was.
-use Rattle.renumber.proofs.Laws.{contacts-turn}
-use Rattle.plug.specs.Plug.{blocks, joined}
+use Rattle.renumber.proofs.Laws.{contacts-step}
+use Rattle.model.specs.Codeplug.{blocks, joined}
 use Rattle.renumber.specs.Moved.{channelsMoved}
 use Rattle.renumber.specs.Shift.{shiftOf}
 use Rattle.fields.proofs.Laws.{over-none}
@@ -26,7 +26,7 @@ loop-again : tie.Need-loop-again Inv-loop μ-loop
 loop-again c =
     let l = c .before .before .before .before .before in
     let a = l .before .before .args in
-    let next = contacts-turn (shiftOf (a .s)) (a .d .now) (l .loop .d) _ (a .start) (l .loop .i) (l .loop .p) (omega arith) (omega arith) (l .loop .inv .1 .1 .1) (c .before .before .move-contact .ensures) in
+    let next = contacts-step (shiftOf (a .s)) (a .d .now) (l .loop .d) _ (a .start) (l .loop .i) (l .loop .p) (omega arith) (omega arith) (l .loop .inv .1 .1 .1) (c .before .before .move-contact .ensures) in
     (omega arith, (omega arith, (omega arith, next)))
 
 returns : tie.Need-returns Inv-loop μ-loop

@@ -1,5 +1,5 @@
 -- The invariant: the entries of i banks are moved, and the next bank starts at p.
-use Rattle.renumber.proofs.Laws.{bank-order, entries-fit, entries-turn, bank-none, banksMoved-none}
+use Rattle.renumber.proofs.Laws.{bank-order, entries-fit, entries-step, bank-none, banksMoved-none}
 use Rattle.renumber.specs.Moved.{banksMoved}
 use Rattle.renumber.specs.Shift.{shiftOf}
 use Rattle.layout.specs.Banks.{bankFrom}
@@ -62,7 +62,7 @@ loop-again c =
     let k = c .before .before .before .before in
     let l = k .before .before .before in
     let a = l .before .before .args in
-    let turned = entries-turn (shiftOf (a .s)) (a .d .now) (l .loop .d) (a .start) (a .n) (l .loop .i) (l .loop .p) (all-bytes (l .before)) (omega arith) (l .loop .inv .0 .1) (omega arith) (l .loop .inv .1 .1) _ (k .entry-count .result) (omega arith) (k .entry-count .ensures .0) (c .before .before .move-run .ensures) in
+    let turned = entries-step (shiftOf (a .s)) (a .d .now) (l .loop .d) (a .start) (a .n) (l .loop .i) (l .loop .p) (all-bytes (l .before)) (omega arith) (l .loop .inv .0 .1) (omega arith) (l .loop .inv .1 .1) _ (k .entry-count .result) (omega arith) (k .entry-count .ensures .0) (c .before .before .move-run .ensures) in
     ((omega arith, room k .1), (omega arith, turned))
 
 returns : tie.Need-returns Inv-loop μ-loop

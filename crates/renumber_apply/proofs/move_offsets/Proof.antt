@@ -1,5 +1,5 @@
 -- The invariant: i offsets are moved, and what stands from p on is as it was.
-use Rattle.renumber.proofs.Laws.{offsets-turn}
+use Rattle.renumber.proofs.Laws.{offsets-step}
 use Rattle.renumber.specs.Moved.{offsetsMoved}
 use Rattle.renumber.specs.Shift.{growthOf}
 use Rattle.fields.proofs.Laws.{over-none}
@@ -28,7 +28,7 @@ loop-again c =
     let l = w .before .before .before .before .before .before in
     let a = l .before .before .args in
     let put = rw (w .before .grown .ensures, w .before .before .le32 .ensures) at (w .put-le32 .ensures) in
-    let next = offsets-turn (growthOf (a .g)) (a .d .now) (l .loop .d) _ (a .start) (l .loop .i) (l .loop .p) (omega arith) (omega arith) (l .loop .inv .1 .1 .1) put in
+    let next = offsets-step (growthOf (a .g)) (a .d .now) (l .loop .d) _ (a .start) (l .loop .i) (l .loop .p) (omega arith) (omega arith) (l .loop .inv .1 .1 .1) put in
     (omega arith, (omega arith, (omega arith, next)))
 
 returns : tie.Need-returns Inv-loop μ-loop

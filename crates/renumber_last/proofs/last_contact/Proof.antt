@@ -1,6 +1,6 @@
 -- The invariant: the last index that moves among i channels.
 use Rattle.renumber_last.proofs.LastLaws.{last-none, last-from, contacts-last}
-use Rattle.plug.specs.Plug.{blocks, joined}
+use Rattle.model.specs.Codeplug.{blocks, joined}
 use Rattle.renumber.specs.Moved.{channelsMoved}
 use Rattle.renumber_last.specs.Last.{LastMoved}
 use Rattle.renumber.specs.Shift.{shiftOf}

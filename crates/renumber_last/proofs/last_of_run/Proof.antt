@@ -1,6 +1,6 @@
 -- The invariant: the last entry that moves among i entries.
-use Rattle.renumber_last.proofs.LastLaws.{last-none, last-from, run-last-turn}
-use Rattle.plug.specs.Plug.{pairs, indexesAt}
+use Rattle.renumber_last.proofs.LastLaws.{last-none, last-from, run-last-step}
+use Rattle.model.specs.Codeplug.{pairs, indexesAt}
 use mathlib.Core.List.{map}
 use Rattle.renumber_last.specs.Last.{LastMoved}
 use Rattle.renumber.specs.Shift.{shiftOf}
@@ -27,7 +27,7 @@ loop-again c =
     let r = c .before in
     let l = r .before .before in
     let a = l .before .before .args in
-    let next = run-last-turn (shiftOf (a .s)) (a .f .now) (a .start) (l .loop .i) (l .loop .p) (l .loop .last) (r .moves-at .result) (c .later .result) (omega arith) (omega arith) (l .loop .inv .1 .1) (r .moves-at .ensures) (c .later .ensures) in
+    let next = run-last-step (shiftOf (a .s)) (a .f .now) (a .start) (l .loop .i) (l .loop .p) (l .loop .last) (r .moves-at .result) (c .later .result) (omega arith) (omega arith) (l .loop .inv .1 .1) (r .moves-at .ensures) (c .later .ensures) in
     (omega arith, (omega arith, next))
 
 returns : tie.Need-returns Inv-loop μ-loop

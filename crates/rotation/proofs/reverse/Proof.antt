@@ -2,8 +2,8 @@
 use Prim.Native.Nat.{_-_, _≤_}
 use mathlib.Core.Path.{_≡_}
 use lib.ListN.{length, length-set}
-use Rattle.rotation.specs.Turn.{reversed}
-use Rattle.rotation.proofs.TurnLaws.{reversed-none-left, reversed-more, reversed-all}
+use Rattle.rotation.specs.Rotation.{reversed}
+use Rattle.rotation.proofs.RotationLaws.{reversed-none-left, reversed-more, reversed-all}
 use native.Mathlib.Omega.{arith}
 use Rattle.rotation.proofs.reverse.Statement.{statement}
 use Rattle.rotation.proofs.reverse.Tie as tie

@@ -3,7 +3,7 @@ use Prim.Native.Nat.{_-_, _≤_}
 use mathlib.Core.Path.{_≡_}
 use lib.ListN.{length, length-set}
 use Rattle.fields.specs.Bytes.{over, part}
-use Rattle.rotation.proofs.TurnLaws.{swap-none, swap-more, swap-all}
+use Rattle.rotation.proofs.RotationLaws.{swap-none, swap-more, swap-all}
 use native.Mathlib.Omega.{arith}
 use Rattle.rotation.proofs.swap.Statement.{statement}
 use Rattle.rotation.proofs.swap.Tie as tie

@@ -6,7 +6,7 @@ use mathlib.Core.Logic.{⊎-elim, inl, inr}
 use borrow.Author.Tests.{ltb-true, ltb-false}
 use lib.ListN.{length, drop}
 use Rattle.text.specs.Text.{plainText}
-use Rattle.text.proofs.Laws.{plain-turn, plain-stop, plain-end}
+use Rattle.text.proofs.Laws.{plain-step, plain-stop, plain-end}
 use Rattle.text.proofs.plain_text.Statement.{statement}
 use Rattle.text.proofs.plain_text.Tie as tie
 
@@ -29,7 +29,7 @@ loop-again : tie.Need-loop-again Inv-loop μ-loop
 loop-again c =
     let s = c .before .before .before .before .before .before .args .s .now in
     let l = c .before .before .before .before .before .loop in
-    (omega arith, plain-turn s (l .i) (omega arith) (omega arith) (omega (arith, ltb-false)) (l .inv .1))
+    (omega arith, plain-step s (l .i) (omega arith) (omega arith) (omega (arith, ltb-false)) (l .inv .1))
 
 returns-2 : tie.Need-returns-2 Inv-loop μ-loop
 returns-2 c = plain-end _ (c .before .loop .i) (omega arith) (c .before .loop .inv .1)

@@ -1,4 +1,4 @@
--- `text::text_field` meets its contract: inside the record the part of 32 bytes is judged, else the answer is 2.
+-- `text::text_field` meets its contract: inside the record the part of 32 bytes is validated, else the answer is 2.
 use native.Mathlib.Omega.{arith}
 use borrow.Author.Needs.{needs}
 use Prim.Native.Nat.{ℕ, _+_, _-_}

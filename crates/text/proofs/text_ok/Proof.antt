@@ -8,7 +8,7 @@ use lib.Dec.{eqb}
 use lib.ListN.{length, drop}
 use Rattle.text.specs.Text.{textOk}
 use Rattle.text.specs.Scan.{restOk}
-use Rattle.text.proofs.Laws.{restOk-start, scan-turn, scan-end}
+use Rattle.text.proofs.Laws.{restOk-start, scan-step, scan-end}
 use Rattle.text.proofs.text_ok.Statement.{statement}
 use Rattle.text.proofs.text_ok.Tie as tie
 
@@ -30,7 +30,7 @@ loop-again c =
       omega arith,
       (
         omega arith,
-        (omega arith, scan-turn s (l .i) (l .faults) (l .prev) (e .result) (omega arith) (e .ensures .0) (l .inv .1 .1 .1)),
+        (omega arith, scan-step s (l .i) (l .faults) (l .prev) (e .result) (omega arith) (e .ensures .0) (l .inv .1 .1 .1)),
       ),
     )
 

@@ -8,13 +8,13 @@ use Rattle.undo.proofs.undo.Tie as tie
 returns : tie.Need-returns
 returns c =
     let e = c .before .before .before .before .before .before .before .before .args in
-    undo-refused (e .room .now) (e .len) (e .history .now) (e .used) _ _ (c .before .before .before .standing .ensures) (c .before .n .given .1)
+    undo-refused (e .room .now) (e .len) (e .history .now) (e .used) _ _ (c .before .before .before .check .ensures) (c .before .n .given .1)
 
 enum-told : tie.Need-enum-told
 enum-told c = search needs
 
 undo-top-requires : tie.Need-undo-top-requires
-undo-top-requires c κs = sym (c .before .before .before .before .standing .ensures) ∙ c .before .before .enum-told .given .1
+undo-top-requires c κs = sym (c .before .before .before .before .check .ensures) ∙ c .before .before .enum-told .given .1
 
 returns-2 : tie.Need-returns-2
 returns-2 c = search needs

@@ -5,7 +5,7 @@ use Rattle.capi.proofs.calls.codeplug_edit.Statement.{statement}
 use Rattle.capi.proofs.calls.codeplug_edit.Tie as tie
 
 returns : tie.Need-returns
-returns c = called _ _ _ _ _ (c .before .before .before .before .before .edit .ensures) (c .call-answer .ensures)
+returns c = called _ _ _ _ _ _ (c .before .before .before .before .before .edit .ensures) (c .edit-answer .ensures)
 
 pub codeplug-edit-spec : {M : Type 1} → statement M
 codeplug-edit-spec =

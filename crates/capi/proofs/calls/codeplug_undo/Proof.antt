@@ -5,7 +5,7 @@ use Rattle.capi.proofs.calls.codeplug_undo.Statement.{statement}
 use Rattle.capi.proofs.calls.codeplug_undo.Tie as tie
 
 returns : tie.Need-returns
-returns c = called _ _ _ _ _ (c .before .before .before .before .before .undo .ensures) (c .call-answer .ensures)
+returns c = called _ _ _ _ _ _ (c .before .before .before .before .before .undo .ensures) (c .edit-answer .ensures)
 
 pub codeplug-undo-spec : {M : Type 1} → statement M
 codeplug-undo-spec =

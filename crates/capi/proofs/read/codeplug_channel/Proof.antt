@@ -1,11 +1,11 @@
--- What is read, from the verdict and the bytes beside it.
+-- What is read, from the validity and the bytes beside it.
 use Rattle.codeplug.proofs.Laws.{channel-read}
 use borrow.Author.Needs.{needs}
 use Rattle.capi.proofs.read.codeplug_channel.Statement.{statement}
 use Rattle.capi.proofs.read.codeplug_channel.Tie as tie
 
 channel-bytes-requires : tie.Need-channel-bytes-requires
-channel-bytes-requires c κs = λ g. c .before .channel-verdict .ensures .1 g
+channel-bytes-requires c κs = λ g. c .before .channel-validity .ensures .1 g
 
 channel-out-requires : tie.Need-channel-out-requires
 channel-out-requires c κs = λ g. c .channel-bytes .ensures .1 g
@@ -13,7 +13,7 @@ channel-out-requires c κs = λ g. c .channel-bytes .ensures .1 g
 returns : tie.Need-returns
 returns c =
     let b = c .before .before .before in
-    let v = b .before .before .channel-verdict .ensures in
+    let v = b .before .before .channel-validity .ensures in
     let a = b .before .before .before .before .before .args in
     rw (← channel-read (a .file .now) (a .n) _ _ (v .0) (b .channel-bytes .ensures .0)) (c .before .before .channel-out .ensures)
 

@@ -1,11 +1,11 @@
--- What is read, from the verdict and the bytes beside it.
+-- What is read, from the validity and the bytes beside it.
 use Rattle.codeplug.proofs.Laws.{contact-read}
 use borrow.Author.Needs.{needs}
 use Rattle.capi.proofs.read.codeplug_contact.Statement.{statement}
 use Rattle.capi.proofs.read.codeplug_contact.Tie as tie
 
 contact-bytes-requires : tie.Need-contact-bytes-requires
-contact-bytes-requires c κs = λ g. c .before .contact-verdict .ensures .1 g
+contact-bytes-requires c κs = λ g. c .before .contact-validity .ensures .1 g
 
 contact-out-requires : tie.Need-contact-out-requires
 contact-out-requires c κs = λ g. c .contact-bytes .ensures .1 g
@@ -13,7 +13,7 @@ contact-out-requires c κs = λ g. c .contact-bytes .ensures .1 g
 returns : tie.Need-returns
 returns c =
     let b = c .before .before .before in
-    let v = b .before .before .contact-verdict .ensures in
+    let v = b .before .before .contact-validity .ensures in
     let a = b .before .before .before .before .before .args in
     rw (← contact-read (a .file .now) (a .n) _ _ (v .0) (b .contact-bytes .ensures .0)) (c .before .before .contact-out .ensures)
 

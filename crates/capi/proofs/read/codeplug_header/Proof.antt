@@ -1,15 +1,15 @@
--- The answer beside the file's verdict.
+-- The answer beside the file's validity.
 use Rattle.codeplug.specs.Read.{headerRead}
 use borrow.Author.Needs.{needs}
 use Rattle.capi.proofs.read.codeplug_header.Statement.{statement}
 use Rattle.capi.proofs.read.codeplug_header.Tie as tie
 
 header-out-requires : tie.Need-header-out-requires
-header-out-requires c κs = λ g. c .header-verdict .ensures .1 g
+header-out-requires c κs = λ g. c .header-validity .ensures .1 g
 
 returns : tie.Need-returns
 unfolding headerRead
-returns c = rw (← c .before .before .before .header-verdict .ensures .0) (c .before .before .header-out .ensures)
+returns c = rw (← c .before .before .before .header-validity .ensures .0) (c .before .before .header-out .ensures)
 
 pub codeplug-header-spec : {M : Type 1} → statement M
 codeplug-header-spec = tie.close (tie.spec (search needs) header-out-requires (search needs) returns)

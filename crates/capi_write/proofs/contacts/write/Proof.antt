@@ -1,4 +1,4 @@
--- A good mode is judged as the library judges; a foreign one answers in its turn.
+-- A mode that is there is validated as the library does; a foreign one answers in its turn.
 use mathlib.Core.Path.{_∙_}
 use mathlib.Core.Logic.{⊎-elim}
 use native.Mathlib.Omega.{arith}

@@ -1,4 +1,4 @@
--- The definition's tests on the mode; FM has no contact index.
+-- The definition's tests on the mode.
 use Rattle.channel.specs.Rule.{namedContact}
 use borrow.Author.Tests.{eq-eqb, ne-eqb}
 use native.Mathlib.Omega.{arith}
@@ -9,42 +9,28 @@ use Rattle.channel.proofs.values.named_contact.Tie as tie
 returns : tie.Need-returns
 unfolding namedContact
 returns c =
-    let m = c .before .byte-at in
-    rw (← m .ensures, eq-eqb (m .result) 0 (omega arith))
+    let m = c .before .before .byte-at in
+    rw (← m .ensures, eq-eqb (m .result) 1 (omega arith), c .index-at .ensures)
 
 returns-2 : tie.Need-returns-2
 unfolding namedContact
 returns-2 c =
-    let m = c .before .before .before .before .byte-at in
-    rw (
-      ← m .ensures,
-      ne-eqb (m .result) 0 (omega arith),
-      eq-eqb (m .result) 1 (omega arith),
-      c .contact-index-of .ensures,
-      c .before .le16 .ensures,
-    )
+    let m = c .before .before .before .byte-at in
+    rw (← m .ensures, ne-eqb (m .result) 1 (omega arith), eq-eqb (m .result) 2 (omega arith), c .index-at2 .ensures)
 
 returns-3 : tie.Need-returns-3
 unfolding namedContact
 returns-3 c =
-    let m = c .before .before .before .before .byte-at in
-    rw (
-      ← m .ensures,
-      ne-eqb (m .result) 0 (omega arith),
-      ne-eqb (m .result) 1 (omega arith),
-      c .contact-index-of2 .ensures,
-      c .before .le162 .ensures,
-    )
+    let m = c .before .before .byte-at in
+    rw (← m .ensures, ne-eqb (m .result) 1 (omega arith), ne-eqb (m .result) 2 (omega arith))
 
 pub named-contact-spec : {M : Type 1} → statement M
 named-contact-spec =
     tie.close
     (tie.spec
     (search needs)
+    (search needs)
     returns
     (search needs)
-    (search needs)
     returns-2
-    (search needs)
-    (search needs)
     returns-3)

@@ -1,9 +1,9 @@
--- Beside a refusal none; at a good place the offset leads to the bank.
+-- Beside a refusal none; at a valid place the offset leads to the bank.
 use mathlib.Core.Path.{_≡_, sym, _∙_}
 use Rattle.layout.specs.Banks.{bankPlace}
 use Rattle.codeplug.specs.Read.{entriesRead}
-use Rattle.codeplug.specs.Once.{tablePlace}
-use Rattle.codeplug.proofs.Laws.{place-good, placed-leads, never, entries-same}
+use Rattle.codeplug.specs.Prevalidated.{tablePlace}
+use Rattle.codeplug.proofs.Laws.{place-valid, placed-leads, never, entries-same}
 use native.Mathlib.Omega.{arith}
 use borrow.Author.Needs.{needs}
 use Rattle.codeplug.proofs.bank_entries.entries.Statement.{statement}
@@ -26,7 +26,7 @@ offset-place-requires : tie.Need-offset-place-requires
 offset-place-requires c κs =
     let e = c .before .before in
     let a = e .before .before .before .args in
-    omega (arith, place-good (a .f .now) (a .n) _ (sym (e .place .ensures) ∙ c .enum-told2 .given .1) .below)
+    omega (arith, place-valid (a .f .now) (a .n) _ (sym (e .place .ensures) ∙ c .enum-told2 .given .1) .below)
 
 returns-2 : tie.Need-returns-2
 unfolding entriesRead tablePlace
@@ -35,9 +35,9 @@ returns-2 c =
     let e = o .before .before .before in
     let a = e .before .before .before .args in
     let f = a .f .now in
-    let good = sym (e .place .ensures) ∙ o .before .enum-told2 .given .1 in
-    let led = placed-leads f (a .n) _ good (e .before .bank-count .ensures .0) in
-    let p : c .before .offset-leads .result ≡ bankPlace f (a .n) = c .before .offset-leads .ensures .0 ∙ rw (o .offset-place .ensures .0) led in
+    let valid = sym (e .place .ensures) ∙ o .before .enum-told2 .given .1 in
+    let led = placed-leads f (a .n) _ valid (e .before .bank-count .ensures .0) in
+    let p : c .before .offset-target .result ≡ bankPlace f (a .n) = c .before .offset-target .ensures .0 ∙ rw (o .offset-place .ensures .0) led in
     rw (c .entries-of2 .ensures, p, e .place .ensures, e .before .bank-count .ensures .0)
 
 pub entries-spec : {M : Type 1} → statement M

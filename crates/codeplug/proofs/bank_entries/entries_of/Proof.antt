@@ -13,7 +13,7 @@ returns c = rw (c .before .enum-told .given .1)
 
 returns-2 : tie.Need-returns-2
 unfolding entriesAnswer
-returns-2 c = rw (c .before .before .enum-told2 .given .1, c .lend .ensures, c .before .entry-count .ensures .0)
+returns-2 c = rw (c .before .before .enum-told2 .given .1, c .record-bytes .ensures, c .before .entry-count .ensures .0)
 
 pub entries-of-spec : {M : Type 1} → statement M
 entries-of-spec =

@@ -1,5 +1,5 @@
--- A good verdict comes with a place to lend from, where the offset leads.
-use Rattle.codeplug.specs.Once.{tablePlace}
+-- `Valid` comes with a place to read from, where the offset leads.
+use Rattle.codeplug.specs.Prevalidated.{tablePlace}
 use Rattle.codeplug.specs.Read.{bytesAnswer}
 use Rattle.codeplug.proofs.Laws.{never}
 use native.Mathlib.Omega.{arith}
@@ -21,7 +21,7 @@ returns-2 : tie.Need-returns-2
 unfolding bytesAnswer tablePlace
 returns-2 c =
     let e = c .before .before .before in
-    let is = rw (c .before .offset-leads .ensures .0, c .before .before .offset-place .ensures .0) at (c .lend .ensures) in
+    let is = rw (c .before .offset-target .ensures .0, c .before .before .offset-place .ensures .0) at (c .record-bytes .ensures) in
     (rw (e .enum-told2 .given .1) is, λ g. rw is (e .before .before .before .pre g .1))
 
 pub bank-bytes-spec : {M : Type 1} → statement M

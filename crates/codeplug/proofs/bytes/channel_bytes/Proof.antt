@@ -1,4 +1,4 @@
--- A good verdict comes with a place to lend from.
+-- `Valid` comes with a place to read from.
 use Rattle.fields.proofs.Laws.{length-part, part-inside}
 use Rattle.layout.specs.Places.{channelPlace}
 use Rattle.codeplug.specs.Read.{bytesAnswer}
@@ -22,7 +22,7 @@ returns-2 : tie.Need-returns-2
 unfolding bytesAnswer
 returns-2 c =
     let e = c .before .before in
-    let is = rw (c .before .channel-place .ensures .0) at (c .lend .ensures) in
+    let is = rw (c .before .channel-place .ensures .0) at (c .record-bytes .ensures) in
     let a = e .before .before .before .args in
     let p = channelPlace (a .f .now) (a .n) in
     (rw (e .enum-told2 .given .1) is, λ g. rw is (length-part (a .f .now) p 90 (part-inside (a .f .now) p 90 (omega arith) (e .before .before .before .pre g .1))))

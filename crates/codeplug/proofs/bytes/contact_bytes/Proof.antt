@@ -1,4 +1,4 @@
--- A good verdict comes with a place to lend from.
+-- `Valid` comes with a place to read from.
 use Rattle.codeplug.specs.Read.{bytesAnswer}
 use Rattle.codeplug.proofs.Laws.{never}
 use borrow.Author.Needs.{needs}
@@ -20,7 +20,7 @@ returns-2 : tie.Need-returns-2
 unfolding bytesAnswer
 returns-2 c =
     let e = c .before .before in
-    let is = rw (c .before .contact-place .ensures .0) at (c .lend .ensures) in
+    let is = rw (c .before .contact-place .ensures .0) at (c .record-bytes .ensures) in
     (rw (e .enum-told2 .given .1) is, λ g. rw is (e .before .before .before .pre g .1))
 
 pub contact-bytes-spec : {M : Type 1} → statement M

@@ -1,4 +1,4 @@
--- The answer beside the verdict, of the bytes that the offset leads to where it is good.
+-- The answer beside the validity, of the bytes that the offset leads to where it is valid.
 use mathlib.Core.Path.{_∙_}
 use Rattle.codeplug.proofs.Laws.{bank-read}
 use borrow.Author.Needs.{needs}
@@ -6,14 +6,14 @@ use Rattle.codeplug.proofs.read.bank.Statement.{statement}
 use Rattle.codeplug.proofs.read.bank.Tie as tie
 
 bank-bytes-requires : tie.Need-bank-bytes-requires
-bank-bytes-requires c κs = λ g. c .bank-verdict .ensures .1 g .0
+bank-bytes-requires c κs = λ g. c .bank-validity .ensures .1 g .0
 
 bank-answer-requires : tie.Need-bank-answer-requires
 bank-answer-requires c κs = λ g. c .bank-bytes .ensures .1 g
 
 returns : tie.Need-returns
 returns c =
-    let v = c .before .before .bank-verdict .ensures in
+    let v = c .before .before .bank-validity .ensures in
     c .bank-answer .ensures ∙ bank-read _ _ _ _ (v .0) (v .1) (c .before .bank-bytes .ensures .0)
 
 pub bank-spec : {M : Type 1} → statement M

@@ -1,4 +1,4 @@
--- The verdict chooses what stands beside it.
+-- The validity chooses what stands beside it.
 use Rattle.codeplug.specs.Read.{bankAnswer}
 use borrow.Author.Needs.{needs}
 use Rattle.codeplug.proofs.read.bank_answer.Statement.{statement}
@@ -16,7 +16,7 @@ returns c = rw (c .before .enum-told .given .1, c .bank-of .ensures)
 
 returns-2 : tie.Need-returns-2
 unfolding bankAnswer
-returns-2 c = rw (c .before .before .verdict .given .1, c .blank-bank .ensures)
+returns-2 c = rw (c .before .before .validity .given .1, c .blank-bank .ensures)
 
 pub bank-answer-spec : {M : Type 1} → statement M
 bank-answer-spec =

@@ -2,8 +2,8 @@
 use Prim.Native.Nat.{_+_, _*_, _-_, _≤_}
 use mathlib.Core.Path.{_≡_, sym, _∙_}
 use native.Mathlib.Nat.{sub-zero}
-use Rattle.plug.specs.Plug.{indexesAt}
-use Rattle.plug.specs.EditRules.{holdsChannel}
+use Rattle.model.specs.Codeplug.{indexesAt}
+use Rattle.model.specs.EditRules.{holdsChannel}
 use Rattle.edit_check.proofs.InUse.{holds-none, holds-found, holds-next}
 use borrow.Author.Needs.{needs}
 use native.Mathlib.Omega.{arith}

@@ -2,9 +2,9 @@
 use mathlib.Core.Path.{refl}
 use mathlib.Core.Bool.{false}
 use mathlib.Core.List.{[], _∷_}
-use Rattle.plug.specs.EditRules.{inUse}
-use Rattle.plug.specs.Plug.{plugOf}
-use Rattle.plug.proofs.KindLaws.{one-of}
+use Rattle.model.specs.EditRules.{inUse}
+use Rattle.model.specs.Codeplug.{codeplugOf}
+use Rattle.model.proofs.KindLaws.{one-of}
 use borrow.Author.Needs.{needs}
 use Rattle.edit_check.proofs.in_use.in_use.Statement.{statement}
 use Rattle.edit_check.proofs.in_use.in_use.Tie as tie
@@ -12,7 +12,7 @@ use Rattle.edit_check.proofs.in_use.in_use.Tie as tie
 returns-3 : tie.Need-returns-3
 returns-3 c =
     let a = c .before .before .args in
-    one-of (λ k. inUse k (a .i) (plugOf (a .f .now))) false (a .k) (0 ∷ 2 ∷ 3 ∷ 5 ∷ 6 ∷ 7 ∷ 8 ∷ 9 ∷ 10 ∷ 11 ∷ []) refl (c .match .keys3)
+    one-of (λ k. inUse k (a .i) (codeplugOf (a .f .now))) false (a .k) (0 ∷ 2 ∷ 3 ∷ 5 ∷ 6 ∷ 7 ∷ 8 ∷ 9 ∷ 10 ∷ 11 ∷ []) refl (c .match .keys3)
 
 pub in-use-spec : {M : Type 1} → statement M
 in-use-spec =

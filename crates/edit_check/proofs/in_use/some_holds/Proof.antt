@@ -2,8 +2,8 @@
 use Prim.Native.Nat.{_+_, _*_, _-_, _≤_, _^_}
 use mathlib.Core.Path.{_≡_, sym, _∙_}
 use native.Mathlib.Nat.{sub-zero}
-use Rattle.plug.specs.Plug.{banksAt, plugOf}
-use Rattle.plug.specs.EditRules.{someHolds}
+use Rattle.model.specs.Codeplug.{banksAt, codeplugOf}
+use Rattle.model.specs.EditRules.{someHolds}
 use Rattle.edit_check.proofs.InUse.{banks-none, banks-found, banks-next}
 use borrow.Author.Needs.{needs}
 use native.Mathlib.Omega.{arith}
@@ -13,13 +13,13 @@ use Rattle.edit_check.proofs.in_use.some_holds.Tie as tie
 abbrev Inv-loop : tie.InvT-loop
 Inv-loop f i banks n₀ p₀ n p =
     (n ≤ banks)
-    × ((p ≤ p₀ + n * 2 ^ 18) × (someHolds i (plugOf f .banks) ≡ someHolds i (banksAt f (banks - n) p)))
+    × ((p ≤ p₀ + n * 2 ^ 18) × (someHolds i (codeplugOf f .banks) ≡ someHolds i (banksAt f (banks - n) p)))
 
 abbrev μ-loop : tie.MeasureT-loop
 μ-loop f i banks n₀ p₀ n p = banks - n
 
 loop-holds : tie.Need-loop-holds Inv-loop μ-loop
-unfolding plugOf
+unfolding codeplugOf
 loop-holds c = (omega arith, (omega arith, rw (sub-zero, c .banks-place .ensures .0, c .before .bank-count .ensures .0)))
 
 returns : tie.Need-returns Inv-loop μ-loop

@@ -2,10 +2,10 @@
 use mathlib.Core.Path.{refl}
 use mathlib.Core.Bool.{true}
 use mathlib.Core.List.{[], _∷_}
-use Rattle.plug.specs.EditRules.{countOk}
-use Rattle.plug.specs.Plug.{plugOf}
-use Rattle.plug.proofs.KindLaws.{one-of}
-use Rattle.plug.proofs.PlaceLaws.{contacts-count, channels-count, banks-count}
+use Rattle.model.specs.EditRules.{countOk}
+use Rattle.model.specs.Codeplug.{codeplugOf}
+use Rattle.model.proofs.KindLaws.{one-of}
+use Rattle.model.proofs.PlaceLaws.{contacts-count, channels-count, banks-count}
 use borrow.Author.Needs.{needs}
 use Rattle.edit_check.proofs.places.count_ok.Statement.{statement}
 use Rattle.edit_check.proofs.places.count_ok.Tie as tie
@@ -13,7 +13,7 @@ use Rattle.edit_check.proofs.places.count_ok.Tie as tie
 returns-5 : tie.Need-returns-5
 returns-5 c =
     let a = c .before .before .args in
-    one-of (λ k. countOk k (a .i) (plugOf (a .f .now))) true (a .k) (1 ∷ 2 ∷ 4 ∷ 5 ∷ 7 ∷ 8 ∷ 10 ∷ 11 ∷ []) refl (c .match .keys5)
+    one-of (λ k. countOk k (a .i) (codeplugOf (a .f .now))) true (a .k) (1 ∷ 2 ∷ 4 ∷ 5 ∷ 7 ∷ 8 ∷ 10 ∷ 11 ∷ []) refl (c .match .keys5)
 
 pub count-ok-spec : {M : Type 1} → statement M
 count-ok-spec =

@@ -2,11 +2,11 @@
 use mathlib.Core.Path.{refl}
 use mathlib.Core.Bool.{Bool}
 use mathlib.Core.List.{[], _∷_}
-use Rattle.plug.specs.declared.Kind.{Kind}
-use Rattle.plug.specs.EditRules.{placeOk}
-use Rattle.plug.specs.Plug.{plugOf}
-use Rattle.plug.proofs.KindLaws.{one-of}
-use Rattle.plug.proofs.PlaceLaws.{contacts-count, channels-count, banks-count}
+use Rattle.model.specs.declared.Kind.{Kind}
+use Rattle.model.specs.EditRules.{placeOk}
+use Rattle.model.specs.Codeplug.{codeplugOf}
+use Rattle.model.proofs.KindLaws.{one-of}
+use Rattle.model.proofs.PlaceLaws.{contacts-count, channels-count, banks-count}
 use borrow.Author.Needs.{needs}
 use Rattle.edit_check.proofs.places.place_ok.Statement.{statement}
 use Rattle.edit_check.proofs.places.place_ok.Tie as tie
@@ -14,7 +14,7 @@ use Rattle.edit_check.proofs.places.place_ok.Tie as tie
 abbrev rule : tie.After-bank-count → Kind → Bool
 rule c k =
     let a = c .before .before .before .before .args in
-    placeOk k (a .i) (a .j) (plugOf (a .f .now))
+    placeOk k (a .i) (a .j) (codeplugOf (a .f .now))
 
 returns-2 : tie.Need-returns-2
 returns-2 c =

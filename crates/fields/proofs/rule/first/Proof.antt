@@ -1,4 +1,4 @@
--- By the two variants of the first verdict.
+-- By the two variants of the first validity.
 use borrow.Author.Needs.{needs}
 use Rattle.fields.specs.Rule.{_then_}
 use Rattle.fields.proofs.rule.first.Statement.{statement}

@@ -7,7 +7,7 @@ use borrow.Author.Needs.{needs}
 use Rattle.fields.proofs.Laws.{AllBytes}
 use Rattle.journal.specs.Entry.{frontOf, none}
 use Rattle.journal.proofs.ScanLaws.{HeadRead, head-read, head-broken}
-use Rattle.journal.proofs.ScanLaws.{Fitting, fitting-start, fitting-turn, fitting-full, fitting-end, fitting-whole}
+use Rattle.journal.proofs.ScanLaws.{Fitting, fitting-start, fitting-step, fitting-full, fitting-end, fitting-whole}
 use Rattle.journal.proofs.scan.fitting.Statement.{statement}
 use Rattle.journal.proofs.scan.fitting.Tie as tie
 
@@ -22,14 +22,14 @@ abbrev μ-loop : tie.MeasureT-loop
 read : (c : tie.After-e Inv-loop μ-loop)
     → HeadRead (c .before .before .before .before .before .before .args .s .now) (c .before .before .before .before .loop .bytes)
     (c .e .given .0 .0)
-read c = head-read _ _ _ (c .before .before .entry-at .ensures) (c .e .given .1)
+read c = head-read _ _ _ (c .before .before .history-entry-at .ensures) (c .e .given .1)
 
 none-here : (c : tie.After-enum-told Inv-loop μ-loop)
     → frontOf (drop (c .before .before .before .before .loop .bytes) (c .before .before .before .before .before .before .args .s .now)) ≡ none
 none-here c =
     let l = c .before .before .before .before in
     let s = l .before .before .args .s .now in
-    head-broken s (l .loop .bytes) (length s) (c .before .before .entry-at .ensures) (c .enum-told .given .1)
+    head-broken s (l .loop .bytes) (length s) (c .before .before .history-entry-at .ensures) (c .enum-told .given .1)
 
 all-bytes : (c : tie.After-shared-slice-known Inv-loop μ-loop) → AllBytes (c .before .args .s .now)
 all-bytes c i = c .shared-slice-known .given i .fits
@@ -43,7 +43,7 @@ loop-less c = omega (arith, read (c .before .before))
 loop-again : tie.Need-loop-again Inv-loop μ-loop
 loop-again c =
     let l = c .before .before .before .before .before .before in
-    (omega (arith, read (c .before .before)), fitting-turn (all-bytes (l .before)) (l .loop .inv .1) (read (c .before .before)) (omega arith))
+    (omega (arith, read (c .before .before)), fitting-step (all-bytes (l .before)) (l .loop .inv .1) (read (c .before .before)) (omega arith))
 
 enum-told : tie.Need-enum-told Inv-loop μ-loop
 enum-told c = search needs

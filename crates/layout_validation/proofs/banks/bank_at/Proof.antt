@@ -1,4 +1,4 @@
--- The offset and the head first; where they are good, the entries.
+-- The offset and the head first; where they are valid, the entries.
 use Rattle.layout.proofs.Laws.{bankAt-bad, bankAt-rest}
 use borrow.Author.Needs.{needs}
 use Rattle.layout_validation.proofs.banks.bank_at.Statement.{statement}
@@ -16,7 +16,7 @@ returns c =
       e .first .ensures,
       e .before .bank-head .ensures,
       e .before .before .unless .ensures,
-      e .before .before .before .offset-leads .ensures .0,
+      e .before .before .before .offset-target .ensures .0,
     ))
     (c .enum-told .given .1)
 
@@ -29,10 +29,10 @@ returns-2 c =
       e .first .ensures,
       e .before .bank-head .ensures,
       e .before .before .unless .ensures,
-      e .before .before .before .offset-leads .ensures .0,
+      e .before .before .before .offset-target .ensures .0,
     ))
     (c .before .before .enum-told2 .given .1)
-    (rw (c .judge-entries .ensures, c .before .entry-count .ensures .0))
+    (rw (c .validate-entries .ensures, c .before .entry-count .ensures .0))
 
 pub bank-at-spec : {M : Type 1} → statement M
 bank-at-spec =

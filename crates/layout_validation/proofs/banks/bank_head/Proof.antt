@@ -16,7 +16,7 @@ returns c =
       c .first .ensures,
       c .before .field .ensures,
       c .before .before .text-field .ensures,
-      e .lend .ensures,
+      e .record-bytes .ensures,
       take-take 32 34 (drop (a .p) (a .f .now)) (omega arith),
     )
 

@@ -1,0 +1,25 @@
+// A C++17 program of two files that both include codeplug.h: makes a codeplug of one bank and reads the bank's name.
+#include <array>
+#include <iostream>
+#include <string_view>
+
+#include "codeplug.h"
+#include "counts.hpp"
+
+int main()
+{
+    constexpr std::string_view text = "Field day";
+    std::array<std::uint8_t, 200> room{}, history{};
+    std::array<std::uint8_t, CODEPLUG_TEXT_SIZE> name{}, again{};
+    codeplug_write_empty(room.data(), room.size());
+    codeplug_write_text(name.data(), name.size(), reinterpret_cast<const std::uint8_t *>(text.data()), text.size());
+    codeplug_edit_answer made = codeplug_edit(room.data(), room.size(), CODEPLUG_HEADER_SIZE, history.data(), history.size(), 0,
+        CODEPLUG_INSERT_BANK, 0, 0, name.data(), name.size());
+    codeplug_bank_answer bank = codeplug_bank(room.data(), made.length, 0, again.data(), again.size());
+    if (made.number != CODEPLUG_OK || bank.number != CODEPLUG_OK || codeplug_text_length(again.data()) != text.size() || again != name) {
+        std::cerr << "C++: " << codeplug_refusal_text(made.number) << ", " << codeplug_refusal_text(bank.number) << "\n";
+        return 1;
+    }
+    std::cout << "C++: " << counts(room.data(), made.length) << "; cut: " << counts(room.data(), made.length - 1) << "\n";
+    return 0;
+}

@@ -1,0 +1,54 @@
+"""Why a call was refused."""
+
+# In the words of bindings/c/include/codeplug.h.
+TEXTS = {
+    0: "not refused",
+    1: "the file is longer than 1,048,576 bytes",
+    2: "the file ends inside a field",
+    3: "the file does not begin as a codeplug",
+    4: "the file's version is not 1",
+    5: "a text holds a byte that no text may hold, or is too long",
+    6: "there is no such mode",
+    7: "a value, a reserved bit or a pad byte is outside its rule",
+    8: "an M17 address is neither a callsign's nor broadcast",
+    9: "a channel names a contact that is not there or has another mode",
+    10: "a bank does not start where its offset says",
+    11: "a bank names a channel that is not there",
+    12: "there are bytes after the last bank",
+    20: "a callsign has no character, or more than nine",
+    21: "a callsign holds a character that no callsign may hold",
+    22: "a callsign ends in a space",
+    23: "a number is neither a callsign's nor broadcast",
+    24: "a callsign's buffer is shorter than nine bytes",
+    25: "an output buffer is too short",
+    30: "a stated length is more than its buffer",
+    31: "the history is not whole entries",
+    32: "there is no such edit, or its record has the wrong length",
+    33: "there is no such place",
+    34: "there are 65,535 already",
+    35: "the contact is called by a channel, or the channel is in a bank",
+    36: "the result does not fit the codeplug's buffer",
+    37: "the edit's entry alone does not fit the history's buffer",
+    38: "there is nothing to undo",
+    39: "the last entry does not fit the codeplug or its room",
+}
+
+
+class Refused(Exception):
+    """A refusal: its number, its place and a line in plain English. The place of 1 to 12 is the offset of the bad field's first byte: in
+    the file; from a writer, in the record; where an edit's result is refused, in that result. The place of 21 is the character's
+    position."""
+
+    def __init__(self, number, place=0):
+        super().__init__(number, place)
+        self.number, self.place, self.text = number, place, TEXTS.get(number, "there is no such refusal")
+
+    def __str__(self):
+        return f"refused {self.number} at {self.place}: {self.text}"
+
+
+def accepted(answer):
+    """The answer, unless it was refused."""
+    if answer.number != 0:
+        raise Refused(answer.number, answer.place)
+    return answer

@@ -1,0 +1,472 @@
+#!/usr/bin/env python3
+"""Tests of codeplug.py: python3 bindings/python/test_codeplug.py."""
+import ctypes
+import os
+import pathlib
+import re
+import shutil
+import subprocess
+import tempfile
+import unittest
+from dataclasses import replace
+
+import codeplug_c
+from codeplug import (BROADCAST, FILE_MAX, HEADER_SIZE, TEXT_SIZE, Bank, Channel, Codeplug, Contact, Counts, DmrContact, DmrInfo,
+                      EditAnswer, EditKind, FmInfo, Header, M17Contact, M17Info, Refused, __version__, decode_address, encode_callsign,
+                      history_entries, tone_frequency, tone_index, validate, version, write_channel, write_contact, write_empty, write_text)
+from codeplug_refused import TEXTS, accepted
+
+ROOT = pathlib.Path(__file__).resolve().parents[2]
+HEADER = (ROOT / "bindings/c/include/codeplug.h").read_text()
+
+
+def sample(name):
+    return (ROOT / "samples" / f"{name}.rtxc").read_bytes()
+
+
+def club():
+    """The club's codeplug: 6 contacts, 10 channels, 4 banks."""
+    return Codeplug(sample("club"), 1000, 10000)
+
+
+def dmr(name="", number=1):
+    return Contact(name, DmrContact(number))
+
+
+def fm(name="", **rest):
+    return Channel(name, "", 145500000, 145500000, rest.pop("info", FmInfo()), **rest)
+
+
+def dmr_channel(contact):
+    return fm(info=DmrInfo(1, 15, 2, contact))
+
+
+def m17_channel(contact):
+    return fm(info=M17Info(15, 1, 3, 2, True, contact))
+
+
+class Case(unittest.TestCase):
+    def refused(self, number, place, call, *arguments):
+        with self.assertRaises(Refused) as caught:
+            call(*arguments)
+        self.assertEqual((caught.exception.number, caught.exception.place), (number, place))
+
+
+class AsInC(Case):
+    def layout(self):
+        for name, structure in codeplug_c.STRUCTURES.items():
+            yield f"{name} {ctypes.sizeof(structure)} {ctypes.alignment(structure)}"
+            for field, _ in structure._fields_:
+                place = getattr(structure, field)
+                yield f"{name}.{field} {place.offset} {place.size}"
+
+    def test_structures(self):
+        with tempfile.TemporaryDirectory() as place:
+            program = os.path.join(place, "layout")
+            command = [os.environ.get("CC", "cc"), "-std=c11", "-Ibindings/c/include", "bindings/c/layout.c", "-o", program]
+            subprocess.run(command, cwd=ROOT, check=True)
+            printed = subprocess.run([program], capture_output=True, text=True, check=True).stdout
+        self.assertEqual(list(self.layout()), printed.splitlines())
+
+    def test_every_structure_and_field_of_the_header_is_there(self):
+        bodies = re.findall(r"struct codeplug_(\w+) \{(.*?)\n\};", HEADER, re.S)
+        there = {name: re.findall(r"^ +[\w ]+ (\w+);", body, re.M) for name, body in bodies}
+        self.assertEqual({name: [f for f, _ in s._fields_] for name, s in codeplug_c.STRUCTURES.items()}, there)
+
+    def test_every_function_of_the_header_is_there(self):
+        types = {"size_t": "c_ulong", "uint64_t": "c_ulong", "uint32_t": "c_uint", "uint16_t": "c_ushort", "uint8_t": "c_ubyte"}
+        names = {f"struct codeplug_{name}": s.__name__ for name, s in codeplug_c.STRUCTURES.items()} | types
+        names |= {"uint8_t *": "c_char_p", "const uint8_t *": "c_char_p"}
+        there = {}
+        for answer, name, arguments in re.findall(r"^(\w[\w ]*) (codeplug_\w+)\(([^;{]*)\);", HEADER, re.M):
+            arguments = [] if arguments == "void" else arguments.split(",")
+            there[name] = names[answer], [names[re.match(r"(.*?) ?\b\w+$", a.strip())[1]] for a in arguments]
+        ours = {name: (answer.__name__, [a.__name__ for a in arguments]) for name, (answer, arguments) in codeplug_c.FUNCTIONS.items()}
+        self.assertEqual(ours, there)
+        self.assertEqual(len(there), 22)
+
+    def test_refusals_say_what_the_header_says(self):
+        table = re.findall(r'^ +REFUSAL\(\w+, (\d+), "(.*)"\)', HEADER, re.M)
+        there = {int(number): text for number, text in table}
+        self.assertEqual((len(table), len(there)), (28, 28))
+        self.assertEqual(TEXTS, there | {0: "not refused"})
+        self.assertEqual((Refused(0).text, Refused(13).text), ("not refused", "there is no such refusal"))
+        self.assertEqual(str(Refused(33, 0)), "refused 33 at 0: there is no such place")
+        self.assertEqual(Refused(33, 0).text, "there is no such place")
+
+    def enum(self, name):
+        """An enum of the header: its names, without what they begin with, and numbers."""
+        body = re.search(rf"enum codeplug_{name} \{{(.*?)\n\}};", HEADER, re.S)[1]
+        found = re.findall(r"^ +CODEPLUG_(\w+) = (\d+)", body, re.M)
+        self.assertEqual(len(found), body.count(" = "))
+        return {name: int(number) for name, number in found}
+
+    def test_sizes_are_those_of_the_header(self):
+        there = self.enum("size")
+        self.assertEqual({name: getattr(codeplug_c, name) for name in there}, there)
+        self.assertEqual(len(there), 9)
+        self.assertEqual((FILE_MAX, HEADER_SIZE, TEXT_SIZE), (there["FILE_MAX"], there["HEADER_SIZE"], there["TEXT_SIZE"]))
+
+    def test_kinds_of_edits_are_those_of_the_header(self):
+        self.assertEqual({kind.name: kind.value for kind in EditKind}, self.enum("edit_kind"))
+        self.assertEqual(len(EditKind), 12)
+
+    def test_a_library_of_another_major_version_is_not_loaded(self):
+        major = int(__version__.split(".")[0])
+        build = ROOT / "build"
+        self.assertRaisesRegex(ImportError, "is not there", codeplug_c.loaded, build, f"{major + 1}.0.0")
+        with tempfile.TemporaryDirectory() as place:
+            shutil.copy(build / f"libcodeplug.so.{major}", f"{place}/libcodeplug.so.{major + 1}")
+            words = f"has the major version {major}, not {major + 1}"
+            self.assertRaisesRegex(ImportError, words, codeplug_c.loaded, pathlib.Path(place), f"{major + 1}.0.0")
+
+    def test_versions_agree(self):
+        there = tuple(int(re.search(rf"^#define CODEPLUG_VERSION_{part} (\d+)$", HEADER, re.M)[1]) for part in ("MAJOR", "MINOR", "PATCH"))
+        self.assertEqual(version(), there)
+        self.assertEqual(__version__, ".".join(map(str, there)))
+
+
+class Reading(Case):
+    def test_opens_or_refuses_each_sample(self):
+        for line in (ROOT / "samples" / "answers.txt").read_text().splitlines():
+            name, answer = line.split(".rtxc: ")
+            try:
+                counts = Codeplug(sample(name)).counts()
+                found = f"ok {counts.contacts} {counts.channels} {counts.banks}"
+                self.assertEqual(validate(sample(name)), counts)
+            except Refused as refused:
+                found = f"refused {refused.number} at {refused.place}"
+                self.refused(refused.number, refused.place, validate, sample(name))
+            self.assertEqual(found, answer, name)
+
+    def test_opens_nothing_and_too_much(self):
+        self.refused(2, 0, Codeplug, b"")
+        self.refused(1, 0, Codeplug, bytes(FILE_MAX + 1))
+        self.assertEqual(Codeplug(bytearray(sample("club")), 2**63).bytes(), sample("club"))
+        self.assertRaises(ValueError, Codeplug, sample("club"), -1)
+        self.assertRaises(ValueError, Codeplug, sample("club"), 0, -1)
+        self.assertRaises(TypeError, Codeplug, 88)
+
+    def test_counts_and_header(self):
+        codeplug = club()
+        self.assertEqual(codeplug.counts(), Counts(6, 10, 4))
+        self.assertEqual(codeplug.header(), Header("Hilltop Radio Club", "Members' set, autumn", 1762000000, Counts(6, 10, 4)))
+        self.assertEqual((codeplug.bytes(), codeplug.undoable()), (sample("club"), 0))
+
+    def test_contacts(self):
+        codeplug = club()
+        self.assertEqual(codeplug.contact(2), Contact("Net control", DmrContact(2221337, 1, True)))
+        self.assertEqual(codeplug.contact(3), Contact("Everyone", M17Contact(BROADCAST)))
+        self.assertEqual(codeplug.contact(5), Contact("Secretary", M17Contact(10476881)))
+        self.refused(33, 0, codeplug.contact, 6)
+        self.refused(33, 0, codeplug.contact, 2**64 - 1)
+        self.assertRaises(ValueError, codeplug.contact, -1)
+        self.assertRaises(ValueError, codeplug.contact, 2**64)
+
+    def test_channels(self):
+        codeplug = club()
+        hill = Channel("Hill", "Repeater, tone on transmit", 145600000, 145000000, FmInfo(None, 2, 0, 2), power=135, latitude=44,
+                       latitude_e4=4939, longitude=11, longitude_e4=3428, altitude_plus_500=790)
+        self.assertEqual((codeplug.channel(0), hill.mode), (hill, 0))
+        self.assertEqual((codeplug.channel(2).bandwidth, codeplug.channel(3).receive_only), (2, True))
+        self.assertEqual(codeplug.channel(4).info, DmrInfo(1, 1, 1, 0))
+        self.assertIsNone(codeplug.channel(6).info.contact)
+        self.assertEqual(codeplug.channel(7).info, M17Info(0, 0, 1, 0, True, 3))
+        south = codeplug.channel(9)
+        self.assertEqual((south.latitude, south.latitude_e4, south.info.contact), (-34, 1325, None))
+        self.refused(33, 0, codeplug.channel, 10)
+
+    def test_a_prevalidated_channel_has_its_contact_looked_up(self):
+        def channel(file, n):
+            texts = codeplug_c.buffer(codeplug_c.TEXTS_SIZE)
+            return accepted(codeplug_c.library.codeplug_channel_prevalidated(bytes(file), len(file), n, texts, len(texts)))
+
+        self.assertEqual(channel(sample("club"), 4).info.contact, 0)
+        file = bytearray(sample("club"))
+        at = 322 + 90 * 4 + 87
+        for bad in 3, 6, 65534:  # an M17 contact, and two that are not there
+            file[at:at + 2] = bad.to_bytes(2, "little")
+            self.refused(9, at, channel, file, 4)
+            self.assertEqual(channel(file, 5).info.mode, 1)
+
+    def test_banks_and_entries(self):
+        codeplug = club()
+        self.assertEqual((codeplug.bank(0), codeplug.entries(0)), (Bank("Everyday", 5), [0, 1, 4, 5, 2]))
+        self.assertEqual((codeplug.entries(2), codeplug.entries(3)), ([], [0, 0, 7]))
+        self.refused(33, 0, codeplug.bank, 4)
+        self.refused(33, 0, codeplug.entries, 4)
+
+
+class Records(Case):
+    def test_every_sample_record_is_written_as_it_was(self):
+        for name in "club", "dealer", "hire":
+            file, codeplug, at = sample(name), Codeplug(sample(name)), 88
+            for n in range(codeplug.counts().contacts):
+                self.assertEqual(write_contact(codeplug.contact(n)), file[at:at + 39])
+                at += 39
+            for n in range(codeplug.counts().channels):
+                self.assertEqual(write_channel(codeplug.channel(n)), file[at:at + 90])
+                at += 90
+
+    def test_contacts_refused(self):
+        write_contact(dmr("x" * 32))
+        for bad in "x" * 33, "a\nb", "a\0", "\0", "é", "\ud800":
+            self.refused(5, 0, write_contact, dmr(bad))
+        self.refused(7, 37, write_contact, Contact("", DmrContact(2**32 - 1, 3)))
+        for bad in 0, 262144000000000, 2**64 - 1:
+            self.refused(8, 33, write_contact, Contact("", M17Contact(bad)))
+        self.assertEqual(write_contact(Contact("", M17Contact(BROADCAST)))[33:], b"\xff" * 6)
+
+    def test_channels_refused(self):
+        for place, bad in ((1, {"bandwidth": 3}), (11, {"scan_list": 251}), (12, {"group_list": 129}), (77, {"latitude": 91}),
+                           (78, {"latitude": 90, "latitude_e4": 1}), (81, {"longitude_e4": 10000}),
+                           (85, {"info": FmInfo(receive_kept=50)}), (86, {"info": FmInfo(transmit_tone=50)})):
+            self.refused(7, place, write_channel, fm(**bad))
+        self.refused(5, 13, write_channel, fm("\t"))
+        self.refused(5, 45, write_channel, replace(fm(), description="x" * 33))
+
+    def test_blanks(self):
+        self.assertEqual(write_channel(dmr_channel(None))[85:], bytes([0x1F, 2, 255, 255, 0]))
+        self.assertEqual(write_channel(dmr_channel(0))[85:], bytes([0x1F, 2, 0, 0, 0]))
+        self.assertEqual(write_channel(m17_channel(None))[85:], bytes([0xF1, 0x32, 1, 255, 255]))
+        self.assertEqual(write_channel(dmr_channel(65535)), write_channel(dmr_channel(None)))
+        self.assertEqual(write_channel(m17_channel(65535)), write_channel(m17_channel(None)))
+        self.assertEqual(write_channel(fm(info=FmInfo(None, 0, 31, 9)))[85:], bytes([31, 0x80, 0, 0, 0]))
+
+    def test_numbers_that_do_not_fit(self):
+        for bad in (dmr_channel(65536), dmr_channel(-1), fm(bandwidth=256), fm(latitude=200), fm(receive_only=None),
+                    fm(info=FmInfo(transmit_tone=256)), fm(info=FmInfo(transmit_kept=-1))):
+            self.assertRaises(ValueError, write_channel, bad)
+        self.assertRaises(ValueError, write_contact, dmr(number=2**32))
+        self.assertRaises(ValueError, write_contact, Contact("", M17Contact(2**64)))
+        self.assertRaises(TypeError, write_contact, dmr(number=None))
+        with self.assertRaises(AttributeError):
+            dmr().nmae = "a name that is not a field"
+
+    def test_texts(self):
+        self.assertEqual(write_text("Field day"), b"Field day" + bytes(23))
+        self.assertEqual((write_text(""), write_text("~" * 32)), (bytes(32), b"~" * 32))
+        for bad in "x" * 33, "a\nb", "a\0", "\x7f", "é", "\ud800":
+            self.refused(5, 0, write_text, bad)
+
+    def test_callsigns(self):
+        self.assertEqual((encode_callsign("AB1CD"), encode_callsign("." * 9)), (10476881, 262143999999999))
+        for number, place, bad in (20, 0, ""), (20, 0, "ABCDEFGHIJ"), (21, 2, "ABc"), (22, 0, "A "):
+            self.refused(number, place, encode_callsign, bad)
+        self.assertEqual((decode_address(10476881), decode_address(40), decode_address(BROADCAST)), ("AB1CD", " A", None))
+        self.refused(23, 0, decode_address, 0)
+        self.refused(23, 0, decode_address, 262144000000000)
+        self.assertRaises(ValueError, decode_address, -1)
+
+    def test_tones(self):
+        self.assertEqual((tone_frequency(0), tone_frequency(49), tone_index(670), tone_index(1000)), (670, 2541, 0, 12))
+        for call, bad in (tone_frequency, 50), (tone_frequency, 256), (tone_index, 0), (tone_index, 671), (tone_index, 65536 + 670):
+            self.assertRaises(ValueError, call, bad)
+
+
+class Editing(Case):
+    def setUp(self):
+        self.codeplug = club()
+
+    def kept(self, number, place, call, *arguments):
+        """A refused call leaves the codeplug as it was."""
+        codeplug = call.__self__
+        before = codeplug.bytes(), codeplug.undoable()
+        self.refused(number, place, call, *arguments)
+        self.assertEqual((codeplug.bytes(), codeplug.undoable()), before)
+
+    def tearDown(self):
+        """Undo brings back the club's file."""
+        while self.codeplug.undoable():
+            self.codeplug.undo()
+        self.assertEqual(self.codeplug.bytes(), sample("club"))
+        self.kept(38, 0, self.codeplug.undo)
+
+    def test_insert_contact(self):
+        made = self.codeplug.insert_contact(0, dmr("New", 7))
+        self.assertEqual((made.length, made.entries, self.codeplug.counts()), (1439, 1, Counts(7, 10, 4)))
+        self.assertEqual((self.codeplug.contact(0), self.codeplug.channel(4).info.contact), (dmr("New", 7), 1))
+        self.assertIsNone(self.codeplug.channel(6).info.contact)
+        self.codeplug.insert_contact(7, dmr("Last"))
+        self.kept(33, 0, self.codeplug.insert_contact, 9, dmr())
+        self.kept(5, 0, self.codeplug.insert_contact, 0, dmr("\n"))
+        self.assertRaises(ValueError, self.codeplug.insert_contact, -1, dmr())
+
+    def test_remove_contact(self):
+        self.codeplug.remove_contact(2)
+        self.assertEqual((self.codeplug.counts(), self.codeplug.channel(7).info.contact), (Counts(5, 10, 4), 2))
+        self.kept(35, 0, self.codeplug.remove_contact, 0)
+        self.kept(33, 0, self.codeplug.remove_contact, 5)
+
+    def test_replace_contact(self):
+        self.codeplug.replace_contact(1, dmr("Region", 91))
+        self.assertEqual(self.codeplug.contact(1), dmr("Region", 91))
+        self.kept(9, 769, self.codeplug.replace_contact, 0, self.codeplug.contact(5))
+        self.kept(33, 0, self.codeplug.replace_contact, 6, dmr())
+        self.kept(7, 37, self.codeplug.replace_contact, 1, Contact("", DmrContact(0, 3)))
+
+    def test_insert_channel(self):
+        self.codeplug.insert_channel(0, m17_channel(5))
+        self.assertEqual((self.codeplug.counts(), self.codeplug.channel(0)), (Counts(6, 11, 4), m17_channel(5)))
+        self.assertEqual(self.codeplug.entries(0), [1, 2, 5, 6, 3])
+        self.codeplug.insert_channel(11, dmr_channel(None))
+        self.kept(9, 322 + 87, self.codeplug.insert_channel, 0, dmr_channel(6))
+        self.kept(33, 0, self.codeplug.insert_channel, 13, fm())
+
+    def test_remove_channel(self):
+        self.codeplug.remove_channel(3)
+        self.assertEqual((self.codeplug.counts(), self.codeplug.entries(1)), (Counts(6, 9, 4), [3, 4, 5, 6, 7]))
+        self.kept(35, 0, self.codeplug.remove_channel, 0)
+        self.kept(33, 0, self.codeplug.remove_channel, 9)
+
+    def test_replace_channel(self):
+        hill = self.codeplug.channel(0)
+        hill.info.transmit_tone = None
+        self.codeplug.replace_channel(0, hill)
+        self.assertEqual(self.codeplug.channel(0).info, FmInfo(None, None, 0, 2))
+        self.kept(33, 0, self.codeplug.replace_channel, 10, hill)
+        self.kept(7, 77, self.codeplug.replace_channel, 0, replace(hill, latitude=91))
+        self.kept(9, 322 + 88, self.codeplug.replace_channel, 0, m17_channel(0))
+
+    def test_insert_bank(self):
+        self.codeplug.insert_bank(4, "x" * 32)
+        self.codeplug.insert_bank(0, "")
+        counts = self.codeplug.counts()
+        self.assertEqual((counts, self.codeplug.bank(5), self.codeplug.entries(0)), (Counts(6, 10, 6), Bank("x" * 32, 0), []))
+        self.kept(33, 0, self.codeplug.insert_bank, 7, "")
+        for bad in "x" * 33, "a\0", "é":
+            self.kept(5, 0, self.codeplug.insert_bank, 0, bad)
+
+    def test_remove_bank(self):
+        self.codeplug.remove_bank(0)
+        self.assertEqual((self.codeplug.counts(), self.codeplug.entries(0)), (Counts(6, 10, 3), [4, 5, 6, 7, 8]))
+        self.kept(33, 0, self.codeplug.remove_bank, 3)
+
+    def test_rename_bank(self):
+        self.codeplug.rename_bank(3, "Best")
+        self.assertEqual((self.codeplug.bank(3), self.codeplug.entries(3)), (Bank("Best", 3), [0, 0, 7]))
+        self.kept(33, 0, self.codeplug.rename_bank, 4, "Best")
+        self.kept(5, 0, self.codeplug.rename_bank, 3, "a\nb")
+
+    def test_insert_entry(self):
+        self.codeplug.insert_entry(2, 0, 9)
+        self.codeplug.insert_entry(2, 1, 0)
+        self.assertEqual(self.codeplug.entries(2), [9, 0])
+        self.kept(33, 0, self.codeplug.insert_entry, 4, 0, 0)
+        self.kept(33, 0, self.codeplug.insert_entry, 2, 3, 0)
+        self.kept(11, 1238 + 34, self.codeplug.insert_entry, 0, 0, 10)
+        self.assertRaises(ValueError, self.codeplug.insert_entry, 0, 0, 65536)
+
+    def test_insert_entry_into_a_full_bank(self):
+        codeplug = Codeplug(sample("empty"), 1000, 1000)
+        codeplug.insert_channel(0, fm())
+        codeplug.insert_bank(0, "Full")
+        codeplug = Codeplug(codeplug.bytes()[:-2] + b"\xff\xff" + bytes(2 * 65535), 1000, 1000)
+        self.assertEqual(codeplug.bank(0).entries, 65535)
+        self.kept(34, 0, codeplug.insert_entry, 0, 0, 0)
+
+    def test_remove_entry(self):
+        self.codeplug.remove_entry(0, 2)
+        self.assertEqual(self.codeplug.entries(0), [0, 1, 5, 2])
+        self.kept(33, 0, self.codeplug.remove_entry, 0, 4)
+        self.kept(33, 0, self.codeplug.remove_entry, 4, 0)
+
+    def test_set_header(self):
+        self.codeplug.set_header("Shop", "", 2**64 - 1)
+        self.assertEqual(self.codeplug.header(), Header("Shop", "", 2**64 - 1, Counts(6, 10, 4)))
+        self.kept(5, 0, self.codeplug.set_header, "\n", "\n", 0)
+        self.kept(5, 32, self.codeplug.set_header, "", "\n", 0)
+        self.assertRaises(ValueError, self.codeplug.set_header, "", "", 2**64)
+
+    def test_without_room_or_history(self):
+        self.kept(36, 0, Codeplug(sample("empty"), 37, 1000).insert_bank, 0, "")
+        self.assertEqual(Codeplug(sample("empty"), 38, 3).insert_bank(0, ""), EditAnswer(126, 3, 1))
+        self.kept(37, 0, Codeplug(sample("empty"), 38, 2).insert_bank, 0, "")
+        self.kept(37, 0, Codeplug(sample("empty")).set_header, "", "", 1)
+
+    def test_history_drops_the_oldest(self):
+        codeplug = Codeplug(sample("empty"), 0, 4)
+        self.assertEqual(codeplug.set_header("", "", 1), EditAnswer(88, 4, 1))
+        self.assertEqual(codeplug.set_header("", "", 2), EditAnswer(88, 4, 1))
+        self.assertEqual((codeplug.undo(), codeplug.header().timestamp), (EditAnswer(88, 0, 0), 1))
+        self.kept(38, 0, codeplug.undo)
+
+
+class Storing(Case):
+    """A codeplug from nothing, and one that was stored with its history."""
+
+    def edited(self):
+        codeplug = club()
+        codeplug.rename_bank(0, "Daily")
+        codeplug.insert_contact(0, dmr("New", 7))
+        return codeplug
+
+    def undo_all(self, codeplug):
+        while codeplug.undoable():
+            codeplug.undo()
+        self.assertEqual((codeplug.bytes(), codeplug.history()), (sample("club"), b""))
+        self.refused(38, 0, codeplug.undo)
+
+    def test_empty(self):
+        codeplug = Codeplug.empty(1000, 1000)
+        self.assertEqual((codeplug.bytes(), write_empty(), codeplug.undoable()), (sample("empty"), sample("empty"), 0))
+        codeplug.insert_bank(0, "Field day")
+        codeplug.set_header("Shop", "", 1)
+        self.assertEqual((codeplug.header(), codeplug.bank(0)), (Header("Shop", "", 1, Counts(0, 0, 1)), Bank("Field day", 0)))
+        self.refused(36, 0, Codeplug.empty(0, 1000).insert_bank, 0, "")
+        self.refused(37, 0, Codeplug.empty().set_header, "", "", 1)
+        self.assertRaises(ValueError, Codeplug.empty, -1)
+
+    def test_history_entries(self):
+        codeplug = Codeplug.empty(0, 12)
+        for n in 1, 2, 3:
+            codeplug.set_header("", "", n)
+            self.assertEqual((history_entries(codeplug.history()), len(codeplug.history())), (n, 4 * n))
+        self.assertEqual((history_entries(b""), history_entries(bytearray(codeplug.history()))), (0, 3))
+        self.refused(31, 0, history_entries, b"\x80\0")
+        self.refused(31, 0, history_entries, codeplug.history()[:-1])
+        self.assertRaises(TypeError, history_entries, 3)
+
+    def test_restored_and_undone(self):
+        stored = self.edited()
+        codeplug = Codeplug.restore(stored.bytes(), stored.history())
+        self.assertEqual((codeplug.bytes(), codeplug.history(), codeplug.undoable()), (stored.bytes(), stored.history(), 2))
+        self.undo_all(codeplug)
+
+    def test_restored_and_edited(self):
+        stored = self.edited()
+        codeplug = Codeplug.restore(stored.bytes(), stored.history(), 1000, 10000)
+        self.assertEqual(codeplug.insert_bank(0, "More").entries, 3)
+        self.undo_all(codeplug)
+
+    def test_restored_after_removals(self):
+        """There is room for what undo brings back, whatever spare bytes are asked for."""
+        stored = club()
+        for call, times in (stored.remove_bank, 4), (stored.remove_channel, 10):
+            for _ in range(times):
+                call(0)
+        for spare in 0, 1, 2000, 2**63:
+            codeplug = Codeplug.restore(stored.bytes(), stored.history(), spare)
+            self.assertEqual(codeplug.undoable(), 14)
+            self.undo_all(codeplug)
+
+    def test_restore_refused(self):
+        file, history = self.edited().bytes(), self.edited().history()
+        self.refused(12, 1400, Codeplug.restore, sample("club-trailing"), history)
+        self.refused(12, 1400, Codeplug.restore, sample("club-trailing"), b"\x80\0")
+        self.refused(31, 0, Codeplug.restore, file, b"\x80\0")
+        self.refused(2, 0, Codeplug.restore, b"", b"")
+        self.assertRaises(ValueError, Codeplug.restore, file, history, -1)
+        self.assertRaises(ValueError, Codeplug.restore, file, history, 0, -1)
+        self.assertRaises(TypeError, Codeplug.restore, file, 0)
+
+    def test_restored_with_the_history_of_another(self):
+        """Undo tells, and changes nothing."""
+        history = self.edited().history()
+        codeplug = Codeplug.restore(sample("empty"), history)
+        self.refused(39, 0, codeplug.undo)
+        self.assertEqual((codeplug.bytes(), codeplug.history(), codeplug.undoable()), (sample("empty"), history, 2))
+
+
+if __name__ == "__main__":
+    unittest.main()

@@ -1,0 +1,12 @@
+-- The fields of the answer, one by one.
+use Rattle.capi_convert.specs.Channels.{channelInfo}
+use borrow.Author.Needs.{needs}
+use Rattle.capi_convert.proofs.channels.m17_info.Statement.{statement}
+use Rattle.capi_convert.proofs.channels.m17_info.Tie as tie
+
+returns : tie.Need-returns
+unfolding channelInfo
+returns c = rw (c .contact-index-number .ensures)
+
+pub m17-info-spec : {M : Type 1} → statement M
+m17-info-spec = tie.close (tie.spec (search needs) returns)

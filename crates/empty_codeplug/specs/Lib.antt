@@ -1,0 +1,2 @@
+-- The empty codeplug.
+pub mod Empty

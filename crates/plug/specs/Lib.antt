@@ -1,6 +1,0 @@
--- A codeplug as lists of records, its file, and the twelve edits on it.
-pub mod Plug
-pub mod Kinds
-pub mod Edits
-pub mod EditRules
-pub mod Laid

@@ -1,0 +1,2 @@
+-- A text field written.
+pub mod Field

@@ -1,0 +1,12 @@
+/* A valid codeplug out of a few bytes of an input. */
+#ifndef FUZZ_VALID_FILE_H
+#define FUZZ_VALID_FILE_H
+
+#include "take.h"
+
+enum { VALID_FILE_MOST = 1 << 16 };
+
+/* Writes the codeplug and answers its length. */
+size_t take_valid_file(struct input *in, uint8_t file[VALID_FILE_MOST]);
+
+#endif

@@ -1,0 +1,313 @@
+//! Doubtful material: files, records, texts and buffers that are refused more
+//! often than not, most of them made by spoiling valid ones.
+
+use crate::address::Address;
+use crate::record::{
+    Channel, ChannelInfo, Contact, ContactInfo, CHANNEL_SIZE, CONTACT_SIZE, NO_CONTACT,
+};
+use crate::sample::{self, Limits, Rng, Shape, Span};
+
+/// A record outside a file has no counts to limit its indexes; any will do.
+const NO_LIMITS: Limits = Limits {
+    contacts: 8,
+    channels: 8,
+};
+
+// Files.
+
+/// The longest file that is made here.
+pub const LONGEST_FILE: usize = 65_536;
+
+const SMALL: Shape = Shape {
+    contacts: 12,
+    channels: 12,
+    banks: 6,
+    entries: 8,
+};
+const LARGE: Shape = Shape {
+    contacts: 300,
+    channels: 300,
+    banks: 20,
+    entries: 300,
+};
+
+/// A file: valid, spoiled, cut, with bytes after its end, or noise.
+pub fn file(rng: &mut Rng) -> Vec<u8> {
+    let mut file = match rng.below(400) {
+        0 => full_file(rng),
+        1 => sample::file(rng, LARGE),
+        2..=5 => Vec::new(),
+        6..=21 => return noise(rng),
+        22..=37 => return valid_header_and_noise(rng),
+        _ => sample::file(rng, SMALL),
+    };
+    if file.is_empty() {
+        return file;
+    }
+    let spans = sample::file_spans(&file);
+    match rng.below(20) {
+        0..=3 => {}
+        4..=6 => cut(rng, &mut file, &spans),
+        7 => extend(rng, &mut file, 40),
+        8..=14 => spoil_some(rng, &mut file, &spans, 1),
+        15 | 16 => spoil_some(rng, &mut file, &spans, 2),
+        17 => {
+            spoil_some(rng, &mut file, &spans, 1);
+            extend(rng, &mut file, 40);
+        }
+        _ => {
+            spoil_some(rng, &mut file, &spans, 1);
+            cut(rng, &mut file, &spans);
+        }
+    }
+    file
+}
+
+/// A file of 65,535 or 65,536 bytes: one bank takes up all the bytes left.
+fn full_file(rng: &mut Rng) -> Vec<u8> {
+    let mut file = sample::file(rng, Shape { banks: 0, ..SMALL });
+    let channels = usize::from(Limits::of_file(&file).channels);
+    if channels == 0 {
+        return file;
+    }
+    file[86] = 1;
+    file.extend([0; 4]);
+    file.extend(sample::padded_text(rng));
+    let entries = (LONGEST_FILE - file.len() - 2) / 2;
+    file.extend((entries as u16).to_le_bytes());
+    for _ in 0..entries {
+        file.extend((rng.below(channels) as u16).to_le_bytes());
+    }
+    file
+}
+
+fn noise(rng: &mut Rng) -> Vec<u8> {
+    let most = rng.pick(&[12, 100, 1_000, 3_000]);
+    let length = rng.below(most);
+    rng.bytes(length)
+}
+
+fn valid_header_and_noise(rng: &mut Rng) -> Vec<u8> {
+    let nothing = Shape {
+        contacts: 0,
+        channels: 0,
+        banks: 0,
+        entries: 0,
+    };
+    let mut file = sample::file(rng, nothing);
+    for count in [82, 84, 86] {
+        file[count] = rng.pick(&[0, 0, 1, 2]);
+    }
+    let length = rng.below(300);
+    let fill = rng.pick(&[None, Some(0), Some(0xFF)]);
+    file.extend(match fill {
+        Some(byte) => vec![byte; length],
+        None => rng.bytes(length),
+    });
+    file
+}
+
+// Spoiling, for files and records alike.
+
+/// Spoils some fields. Each kind of field is as likely as any other.
+pub fn spoil_some(rng: &mut Rng, bytes: &mut [u8], spans: &[Span], times: usize) {
+    for _ in 0..times {
+        let mut kinds = Vec::new();
+        for span in spans {
+            if !kinds.contains(&span.kind) {
+                kinds.push(span.kind);
+            }
+        }
+        let kind = rng.pick(&kinds);
+        let fitting: Vec<Span> = spans.iter().copied().filter(|s| s.kind == kind).collect();
+        let limits = match bytes.len() {
+            CONTACT_SIZE | CHANNEL_SIZE => NO_LIMITS,
+            _ => Limits::of_file(bytes),
+        };
+        let span = rng.pick(&fitting);
+        sample::spoil(rng, bytes, span, limits);
+    }
+}
+
+/// Cuts before, inside or right after some field.
+pub fn cut(rng: &mut Rng, bytes: &mut Vec<u8>, spans: &[Span]) {
+    let span = rng.pick(spans);
+    let inside = match rng.below(4) {
+        0 => 0,
+        1 => span.size,
+        2 => span.size - 1,
+        _ => rng.below(span.size + 1),
+    };
+    bytes.truncate(span.at + inside);
+}
+
+/// Appends more bytes.
+pub fn extend(rng: &mut Rng, bytes: &mut Vec<u8>, most: usize) {
+    let length = rng.pick(&[1, 1, 2, most / 2, most]);
+    let more = rng.bytes(length);
+    let zeros = rng.flag();
+    bytes.extend(more.iter().map(|&b| if zeros { 0 } else { b }));
+}
+
+/// A record's bytes, valid or spoiled; whole, cut or with more bytes after.
+pub fn record_bytes(rng: &mut Rng, mut record: Vec<u8>, spans: &[Span]) -> Vec<u8> {
+    match rng.below(8) {
+        0 | 1 => {}
+        2..=6 => spoil_some(rng, &mut record, spans, 1),
+        _ => spoil_some(rng, &mut record, spans, 2),
+    }
+    match rng.below(10) {
+        0 | 1 => cut(rng, &mut record, spans),
+        2 => {
+            let most = 100 - record.len();
+            extend(rng, &mut record, most);
+        }
+        3 if rng.one_in(4) => {
+            let length = rng.below(101);
+            record = rng.bytes(length);
+        }
+        _ => {}
+    }
+    record
+}
+
+/// An output buffer of random bytes: exact, longer or too short.
+pub fn out_buffer(rng: &mut Rng, size: usize) -> Vec<u8> {
+    let length = match rng.below(8) {
+        0 => rng.below(size),
+        1 => size - 1,
+        2 | 3 => size + 1 + rng.below(20),
+        _ => size,
+    };
+    rng.bytes(length)
+}
+
+/// A text that a writer refuses, more often than not.
+pub fn text(rng: &mut Rng) -> Vec<u8> {
+    let mut text = sample::text(rng);
+    match rng.below(3) {
+        0 => {
+            let length = rng.pick(&[31, 32, 33, 34, 64, 255]);
+            text.resize(length, b'x');
+        }
+        _ => {
+            let place = rng.below(text.len() + 1);
+            let byte = rng.pick(&[0x00, 0x1F, 0x7F, 0x80, 0xFF, 0x20, 0x7E]);
+            text.insert(place, byte);
+        }
+    }
+    text
+}
+
+// Contacts.
+
+/// A contact that a writer may refuse.
+pub fn contact(rng: &mut Rng, mut contact: Contact) -> Contact {
+    if rng.one_in(4) {
+        contact.name = text(rng);
+    }
+    if rng.flag() {
+        match &mut contact.info {
+            ContactInfo::Dmr { contact_type, .. } => *contact_type = rng.pick(&[0, 1, 2, 3, 4, 64, 128, 255]),
+            ContactInfo::M17(Address::Callsign(number)) => *number = sample::doubtful_number(rng),
+            ContactInfo::M17(Address::Broadcast) => {}
+        }
+    }
+    contact
+}
+
+// Channels.
+
+/// A channel that a writer may refuse.
+pub fn channel(rng: &mut Rng, mut channel: Channel) -> Channel {
+    let times = rng.pick(&[0, 1, 1, 1, 1, 2]);
+    for _ in 0..times {
+        match rng.below(15) {
+            0 => channel.bandwidth = rng.pick(&[2, 3, 4, 64, 255]),
+            1 => channel.scan_list = rng.pick(&[250, 251, 255]),
+            2 => channel.group_list = rng.pick(&[128, 129, 255]),
+            3 => channel.name = text(rng),
+            4 => channel.description = text(rng),
+            5 => channel.location.latitude_floor = rng.pick(&[90, -90, 91, -91, 127, -128]),
+            6 => {
+                channel.location.latitude_floor = 90;
+                channel.location.latitude_ten_thousandths = rng.pick(&[0, 1, 9_999, 10_000]);
+            }
+            7 => {
+                channel.location.latitude_ten_thousandths = rng.pick(&[9_999, 10_000, 65_535]);
+            }
+            8 => {
+                channel.location.longitude_ten_thousandths = rng.pick(&[9_999, 10_000, 65_535]);
+            }
+            _ => spoil_info(rng, &mut channel.info),
+        }
+    }
+    channel
+}
+
+fn spoil_info(rng: &mut Rng, info: &mut ChannelInfo) {
+    const NONE_AS_CONTACT: Option<u16> = Some(NO_CONTACT);
+    const INDEXES: [Option<u16>; 4] =
+        [None, Some(NO_CONTACT - 1), NONE_AS_CONTACT, NONE_AS_CONTACT];
+    const NIBBLES: [u8; 5] = [15, 16, 17, 128, 255];
+    match info {
+        ChannelInfo::Fm { rx_tone, tx_tone } => {
+            let index = rng.pick(&[49, 50, 127, 128, 128 + 49, 128 + 50, 255]);
+            let tone = if rng.flag() { rx_tone } else { tx_tone };
+            tone.index = index;
+        }
+        ChannelInfo::Dmr {
+            rx_colour,
+            tx_colour,
+            timeslot,
+            contact,
+        } => match rng.below(4) {
+            0 => *rx_colour = rng.pick(&NIBBLES),
+            1 => *tx_colour = rng.pick(&NIBBLES),
+            2 => *timeslot = rng.pick(&[0, 1, 2, 3, 255]),
+            _ => *contact = rng.pick(&INDEXES),
+        },
+        ChannelInfo::M17 {
+            rx_access,
+            tx_access,
+            operation,
+            encryption,
+            contact,
+            ..
+        } => match rng.below(5) {
+            0 => *rx_access = rng.pick(&NIBBLES),
+            1 => *tx_access = rng.pick(&NIBBLES),
+            2 => *operation = rng.pick(&[0, 1, 3, 4, 15, 16, 17, 18, 255]),
+            3 => *encryption = rng.pick(&[0, 2, 3, 15, 16, 17, 18, 255]),
+            _ => *contact = rng.pick(&INDEXES),
+        },
+    }
+}
+
+// Addresses.
+
+/// A callsign, with foreign characters, spaces and lengths of all kinds.
+pub fn callsign(rng: &mut Rng) -> Vec<u8> {
+    let length = match rng.below(8) {
+        0 => 0,
+        1 => 10 + rng.below(12),
+        2 => 9,
+        _ => 1 + rng.below(9),
+    };
+    let alphabet = b"ABCDEFGHIJKLMNOPQRSTUVWXYZ0123456789-/.     ";
+    let mut text: Vec<u8> = (0..length).map(|_| rng.pick(alphabet)).collect();
+    if length > 0 && rng.one_in(3) {
+        let place = rng.below(length);
+        let near = [
+            b'@', b'[', b':', b',', b'!', b'a', b'z', b'_', 0x00, 0x1F, 0x7F, 0xC0,
+        ];
+        text[place] = rng.pick(&near);
+    }
+    if length > 0 && rng.one_in(5) {
+        text[length - 1] = b' ';
+    }
+    if rng.one_in(30) {
+        text.fill(b' ');
+    }
+    text
+}

@@ -1,0 +1,26 @@
+//! A plain second implementation of the OBCF codeplug editor.
+//!
+//! "The paper" in the comments is document 01 (the codeplug editor and its
+//! rules), read with its two sources: 000 for the OBCF layout and 001 for M17
+//! addresses. This crate exists to be compared with another implementation,
+//! so it favours plainness over speed.
+
+pub mod address;
+pub mod book;
+pub mod codeplug;
+mod cursor;
+pub mod doubtful;
+pub mod edit;
+pub mod history;
+pub mod lists;
+pub mod record;
+pub mod refusal;
+pub mod sample;
+pub mod tone;
+
+pub use codeplug::{validate, Codeplug, Counts};
+pub use refusal::{Reason, Refusal};
+
+/// The longest file that is read, and the largest number in a history
+/// (paper: refusal 1, The history).
+pub const LONGEST: usize = 1_048_576;
