@@ -117,24 +117,24 @@ reserved d o q used n size b past f g bs ps fits = record { filled = fill }
 
 -- ---- the run that is kept, out of a buffer that holds a history
 
-pub record KeptRun (d : List ℕ) (used room : ℕ) (k : Run) : Type 0 where
+pub record KeptRun (d : List ℕ) (used space : ℕ) (k : Run) : Type 0 where
   pub held : List Entry
   pub held-is : entriesOf (take used d) ≡ whole held
-  pub bytes-is : k .bytes ≡ length (historyBytes (fittingRun room held))
-  pub entries-is : k .entries ≡ length (fittingRun room held)
-  pub run-is : take (k .bytes) d ≡ historyBytes (fittingRun room held)
-  pub fits : k .bytes ≤ room
+  pub bytes-is : k .bytes ≡ length (historyBytes (fittingRun space held))
+  pub entries-is : k .entries ≡ length (fittingRun space held)
+  pub run-is : take (k .bytes) d ≡ historyBytes (fittingRun space held)
+  pub fits : k .bytes ≤ space
   pub few : 3 * k .entries ≤ k .bytes
 
-run-by : (d : List ℕ) (used room : ℕ) (k : Run) (r : Entries) → AllBytes d → (numberOfEntries r ≡ read.Broken → ⊥) → k ≡ runOf r room
-    → entriesOf (take used d) ≡ r → KeptRun d used room k
+run-by : (d : List ℕ) (used space : ℕ) (k : Run) (r : Entries) → AllBytes d → (numberOfEntries r ≡ read.Broken → ⊥) → k ≡ runOf r space
+    → entriesOf (take used d) ≡ r → KeptRun d used space k
 unfolding numberOfEntries runOf
-run-by d used room k (whole es) b u f e =
-    let h = historyBytes (fittingRun room es) in
+run-by d used space k (whole es) b u f e =
+    let h = historyBytes (fittingRun space es) in
     let c : historyBytes es ≡ take used d = entries-canonical (take used d) es (bytes-take used d b) e .0 in
     let n : k .bytes ≡ length h = ap (λ (r : Run). r .bytes) f in
-    let m : k .entries ≡ length (fittingRun room es) = ap (λ (r : Run). r .entries) f in
-    let t : h ≡ take (length h) (take used d) = kept-bytes room es ∙ ap (λ (l : List ℕ). take (length h) l) c in
+    let m : k .entries ≡ length (fittingRun space es) = ap (λ (r : Run). r .entries) f in
+    let t : h ≡ take (length h) (take used d) = kept-bytes space es ∙ ap (λ (l : List ℕ). take (length h) l) c in
     let i : length h ≤ length (take used d) = omega (arith, ap length t, length-take (length h) (take used d)) in
     let j : length h ≤ used = omega (arith, length-take used d) in
     record {
@@ -143,38 +143,38 @@ run-by d used room k (whole es) b u f e =
       bytes-is = n;
       entries-is = m;
       run-is = rw n (sym (t ∙ take-take (length h) used d j));
-      fits = omega (arith, kept-fits room es);
-      few = omega (arith, history-least (fittingRun room es));
+      fits = omega (arith, kept-fits space es);
+      few = omega (arith, history-least (fittingRun space es));
     }
-run-by d used room k broken b u f e = absurd (u refl)
+run-by d used space k broken b u f e = absurd (u refl)
 
-pub kept-run : {d : List ℕ} {used room : ℕ} {k : Run} → AllBytes d → (numberOfEntries (entriesOf (take used d)) ≡ read.Broken → ⊥)
-    → k ≡ runOf (entriesOf (take used d)) room → KeptRun d used room k
-kept-run {d} {used} {room} {k} b u f = run-by d used room k (entriesOf (take used d)) b u f refl
+pub kept-run : {d : List ℕ} {used space : ℕ} {k : Run} → AllBytes d → (numberOfEntries (entriesOf (take used d)) ≡ read.Broken → ⊥)
+    → k ≡ runOf (entriesOf (take used d)) space → KeptRun d used space k
+kept-run {d} {used} {space} {k} b u f = run-by d used space k (entriesOf (take used d)) b u f refl
 
 -- the history with the entry first
-recorded-run : {d : List ℕ} {used room : ℕ} {k : Run} (r : KeptRun d used room k) (e : Entry) → room ≡ length d - entrySize e
-    → recordedIn (length d) e (entriesOf (take used d)) ≡ e ∷ fittingRun room (r .held)
+recorded-run : {d : List ℕ} {used space : ℕ} {k : Run} (r : KeptRun d used space k) (e : Entry) → space ≡ length d - entrySize e
+    → recordedIn (length d) e (entriesOf (take used d)) ≡ e ∷ fittingRun space (r .held)
 unfolding recordedIn recorded
 recorded-run {d} r e f = rw (r .held-is, f)
 
 -- o is the buffer after the entry was put in front of the run
-pub history-first-run : {d o : List ℕ} {used room : ℕ} {k : Run} → KeptRun d used room k → (e : Entry) → room ≡ length d - entrySize e
+pub history-first-run : {d o : List ℕ} {used space : ℕ} {k : Run} → KeptRun d used space k → (e : Entry) → space ≡ length d - entrySize e
     → o ≡ holding d used (entryBytes e ++ take (k .bytes) d)
     → o ≡ holding d used (historyBytes (recordedIn (length d) e (entriesOf (take used d))))
 unfolding historyBytes
 history-first-run r e f g = g ∙ rw (recorded-run r e f, r .run-is)
 
 -- its length and number of entries
-pub run-first : {d : List ℕ} {used room : ℕ} {k : Run} → KeptRun d used room k → (e : Entry) (size : ℕ) → size ≡ entrySize e
-    → room ≡ length d - entrySize e
+pub run-first : {d : List ℕ} {used space : ℕ} {k : Run} → KeptRun d used space k → (e : Entry) (size : ℕ) → size ≡ entrySize e
+    → space ≡ length d - entrySize e
     → _≡_ {A = Run} (record { bytes = size + k .bytes; entries = k .entries + 1 })
     (record {
       bytes = length (historyBytes (recordedIn (length d) e (entriesOf (take used d))));
       entries = length (recordedIn (length d) e (entriesOf (take used d)));
     })
-run-first {d} {used} {room} {k} r e size s f =
-    let l = fittingRun room (r .held) in
+run-first {d} {used} {space} {k} r e size s f =
+    let l = fittingRun space (r .held) in
     let b : length (historyBytes (e ∷ l)) ≡ size + k .bytes = omega (arith, history-size e l, r .bytes-is) in
     let n : length (e ∷ l) ≡ k .entries + 1 = omega (arith, r .entries-is) in
     rw (recorded-run r e f, b, n)

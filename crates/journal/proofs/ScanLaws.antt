@@ -226,79 +226,79 @@ counted-end s k n all e h =
 
 -- k bytes and n entries are passed
 unfoldable pub runFrom : ℕ → ℕ → ℕ → Entries → Run
-runFrom k n room (whole es) =
-    record { bytes = k + length (historyBytes (fittingRun (room - k) es)); entries = n + length (fittingRun (room - k) es) }
-runFrom k n room broken = record { bytes = 0; entries = 0 }
+runFrom k n space (whole es) =
+    record { bytes = k + length (historyBytes (fittingRun (space - k) es)); entries = n + length (fittingRun (space - k) es) }
+runFrom k n space broken = record { bytes = 0; entries = 0 }
 
-run-zero : (room : ℕ) (r : Entries) → runOf r room ≡ runFrom 0 0 room r
+run-zero : (space : ℕ) (r : Entries) → runOf r space ≡ runFrom 0 0 space r
 unfolding runOf runFrom
-run-zero room (whole es) =
-    let z : room - 0 ≡ room = omega arith in
-    rw (z, zero-add (length (historyBytes (fittingRun room es))), zero-add (length (fittingRun room es)))
-run-zero room broken = refl
+run-zero space (whole es) =
+    let z : space - 0 ≡ space = omega arith in
+    rw (z, zero-add (length (historyBytes (fittingRun space es))), zero-add (length (fittingRun space es)))
+run-zero space broken = refl
 
-run-next : (k n room next : ℕ) (e : Entry) (t : List ℕ) (r : Entries) → k + entrySize e ≡ next → next ≤ room
-    → runFrom k n room (before (front e t) r) ≡ runFrom next (n + 1) room r
+run-next : (k n space next : ℕ) (e : Entry) (t : List ℕ) (r : Entries) → k + entrySize e ≡ next → next ≤ space
+    → runFrom k n space (before (front e t) r) ≡ runFrom next (n + 1) space r
 unfolding runFrom before
-run-next k n room next e t (whole es) h g =
-    let left : room - k - entrySize e ≡ room - next = omega arith in
-    let f : fittingRun (room - k) (e ∷ es) ≡ e ∷ fittingRun (room - next) es = kept-more (room - k) e es (omega arith) ∙ rw left in
-    let l = fittingRun (room - next) es in
+run-next k n space next e t (whole es) h g =
+    let left : space - k - entrySize e ≡ space - next = omega arith in
+    let f : fittingRun (space - k) (e ∷ es) ≡ e ∷ fittingRun (space - next) es = kept-more (space - k) e es (omega arith) ∙ rw left in
+    let l = fittingRun (space - next) es in
     let b : k + length (historyBytes (e ∷ l)) ≡ next + length (historyBytes l) = omega (arith, history-size e l) in
     let c : n + suc (length l) ≡ n + 1 + length l = omega arith in
     rw (f, b, c)
-run-next k n room next e t broken h g = refl
+run-next k n space next e t broken h g = refl
 
-run-full : (k n room next : ℕ) (e : Entry) (t : List ℕ) (r : Entries) → k + entrySize e ≡ next → room < next → k ≤ room
-    → (before (front e t) r ≡ broken → ⊥) → record { bytes = k; entries = n } ≡ runFrom k n room (before (front e t) r)
+run-full : (k n space next : ℕ) (e : Entry) (t : List ℕ) (r : Entries) → k + entrySize e ≡ next → space < next → k ≤ space
+    → (before (front e t) r ≡ broken → ⊥) → record { bytes = k; entries = n } ≡ runFrom k n space (before (front e t) r)
 unfolding runFrom before
-run-full k n room next e t (whole es) h g i u =
+run-full k n space next e t (whole es) h g i u =
     let b : k ≡ k + 0 = omega arith in
     let c : n ≡ n + 0 = omega arith in
-    rw (kept-stop (room - k) e es (omega arith), history-none, ← b, ← c)
-run-full k n room next e t broken h g i u = absurd (u refl)
+    rw (kept-stop (space - k) e es (omega arith), history-none, ← b, ← c)
+run-full k n space next e t broken h g i u = absurd (u refl)
 
 not-broken : (e : Entry) (t : List ℕ) (r : Entries) → (before (front e t) r ≡ broken → ⊥) → r ≡ broken → ⊥
 unfolding before
 not-broken e t r u z = u (rw z)
 
 -- so far: the run of all is what is passed and then the run of the rest, which is whole entries
-pub record Fitting (s : List ℕ) (room k n : ℕ) : Type 0 where
-  pub same : runOf (entriesOf s) room ≡ runFrom k n room (entriesOf (drop k s))
+pub record Fitting (s : List ℕ) (space k n : ℕ) : Type 0 where
+  pub same : runOf (entriesOf s) space ≡ runFrom k n space (entriesOf (drop k s))
   pub sound : entriesOf (drop k s) ≡ broken → ⊥
 
-pub fitting-start : (s : List ℕ) (room : ℕ) → (numberOfEntries (entriesOf s) ≡ read.Broken → ⊥) → Fitting s room 0 0
+pub fitting-start : (s : List ℕ) (space : ℕ) → (numberOfEntries (entriesOf s) ≡ read.Broken → ⊥) → Fitting s space 0 0
 unfolding numberOfEntries
-fitting-start s room u = record { same = run-zero room (entriesOf s); sound = λ e. u (rw e) }
+fitting-start s space u = record { same = run-zero space (entriesOf s); sound = λ e. u (rw e) }
 
-pub fitting-step : {s : List ℕ} {room k n : ℕ} {h : EntryHead} → AllBytes s → Fitting s room k n → HeadRead s k h → h .next ≤ room
-    → Fitting s room (h .next) (n + 1)
-fitting-step {s} {room} {k} {n} {h} b f r g =
+pub fitting-step : {s : List ℕ} {space k n : ℕ} {h : EntryHead} → AllBytes s → Fitting s space k n → HeadRead s k h → h .next ≤ space
+    → Fitting s space (h .next) (n + 1)
+fitting-step {s} {space} {k} {n} {h} b f r g =
     let t = drop (h .next) s in
     let e = entries-next (drop k s) (r .entry) t (r .front-is) in
     let u : before (front (r .entry) t) (entriesOf t) ≡ broken → ⊥ = λ z. f .sound (e ∙ z) in
     record {
-      same = f .same ∙ rw e (run-next k n room (h .next) (r .entry) t (entriesOf t) (head-size s k h b r) g);
+      same = f .same ∙ rw e (run-next k n space (h .next) (r .entry) t (entriesOf t) (head-size s k h b r) g);
       sound = not-broken (r .entry) t (entriesOf t) u;
     }
 
-pub fitting-full : {s : List ℕ} {room k n : ℕ} {h : EntryHead} → AllBytes s → Fitting s room k n → HeadRead s k h → k ≤ room
-    → room < h .next → record { bytes = k; entries = n } ≡ runOf (entriesOf s) room
-fitting-full {s} {room} {k} {n} {h} b f r i g =
+pub fitting-full : {s : List ℕ} {space k n : ℕ} {h : EntryHead} → AllBytes s → Fitting s space k n → HeadRead s k h → k ≤ space
+    → space < h .next → record { bytes = k; entries = n } ≡ runOf (entriesOf s) space
+fitting-full {s} {space} {k} {n} {h} b f r i g =
     let t = drop (h .next) s in
     let e = entries-next (drop k s) (r .entry) t (r .front-is) in
     let u : before (front (r .entry) t) (entriesOf t) ≡ broken → ⊥ = λ z. f .sound (e ∙ z) in
-    run-full k n room (h .next) (r .entry) t (entriesOf t) (head-size s k h b r) g i u ∙ sym (f .same ∙ rw e refl)
+    run-full k n space (h .next) (r .entry) t (entriesOf t) (head-size s k h b r) g i u ∙ sym (f .same ∙ rw e refl)
 
-pub fitting-end : {s : List ℕ} {room k n : ℕ} → Fitting s room k n → length s ≤ k → record { bytes = k; entries = n } ≡ runOf (entriesOf s) room
+pub fitting-end : {s : List ℕ} {space k n : ℕ} → Fitting s space k n → length s ≤ k → record { bytes = k; entries = n } ≡ runOf (entriesOf s) space
 unfolding runFrom
-fitting-end {s} {room} {k} {n} f h =
+fitting-end {s} {space} {k} {n} f h =
     let b : k + 0 ≡ k = omega arith in
     let c : n + 0 ≡ n = omega arith in
-    sym (f .same ∙ rw (drop-of-length-le s h, entries-none, kept-none (room - k), history-none, b, c))
+    sym (f .same ∙ rw (drop-of-length-le s h, entries-none, kept-none (space - k), history-none, b, c))
 
-pub fitting-whole : {A : Type 0} {s : List ℕ} {room k n : ℕ} → Fitting s room k n → k < length s → frontOf (drop k s) ≡ none → A
-fitting-whole {A} {s} {room} {k} f h g = absurd (f .sound (entries-stop (drop k s) (omega (arith, length-drop k s)) g))
+pub fitting-whole : {A : Type 0} {s : List ℕ} {space k n : ℕ} → Fitting s space k n → k < length s → frontOf (drop k s) ≡ none → A
+fitting-whole {A} {s} {space} {k} f h g = absurd (f .sound (entries-stop (drop k s) (omega (arith, length-drop k s)) g))
 
 -- ---- what the scans say of a history
 
@@ -320,11 +320,11 @@ pub counted-history : (es : List Entry) → AllValid es → numberOfEntries (ent
 unfolding numberOfEntries
 counted-history es g = rw (entries-return es g)
 
-pub run-history : (es : List Entry) (room : ℕ) → AllValid es
-    → runOf (entriesOf (historyBytes es)) room
-    ≡ record { bytes = length (historyBytes (fittingRun room es)); entries = length (fittingRun room es) }
+pub run-history : (es : List Entry) (space : ℕ) → AllValid es
+    → runOf (entriesOf (historyBytes es)) space
+    ≡ record { bytes = length (historyBytes (fittingRun space es)); entries = length (fittingRun space es) }
 unfolding runOf
-run-history es room g = rw (entries-return es g)
+run-history es space g = rw (entries-return es g)
 
 -- the head of a history's first entry
 pub head-first : (e : Entry) (es : List Entry) → ValidEntry e

@@ -72,8 +72,8 @@ pub fn record_entry(d: &mut [u8], used: usize, s: Span, old: &[u8]) -> Run
     ensures left { λ r. ⌜ r ≡ runHeld (recordedOver (now (d .entry)) used s (now (old .entry))) ⌝ }
 {
     let size = entry_size(s);
-    let room = d.len() - size;
-    let kept = fitting(&d[..used], room);
+    let space = d.len() - size;
+    let kept = fitting(&d[..used], space);
     reserve(d, used, kept.bytes, size);
     write_entry(d, s, old);
     Run {

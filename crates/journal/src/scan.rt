@@ -80,9 +80,9 @@ pub fn history_entries(s: &[u8]) -> HistoryRead
 }
 
 // The longest run of a history's entries, from the front, within so many bytes.
-pub(crate) fn fitting(s: &[u8], room: usize) -> Run
+pub(crate) fn fitting(s: &[u8], space: usize) -> Run
     requires { ⌜ (numberOfEntries (entriesOf (now s)) ≡ HistoryRead.Broken → ⊥) ⌝ }
-    ensures { λ r. ⌜ r ≡ runOf (entriesOf (now (s .entry))) room ⌝ }
+    ensures { λ r. ⌜ r ≡ runOf (entriesOf (now (s .entry))) space ⌝ }
 {
     let mut bytes = 0;
     let mut entries = 0;
@@ -90,7 +90,7 @@ pub(crate) fn fitting(s: &[u8], room: usize) -> Run
         match history_entry_at(s, bytes) {
             EntryRead::Entry(e) => {
                 let next = e.next;
-                if room < next {
+                if space < next {
                     break;
                 }
                 bytes = next;

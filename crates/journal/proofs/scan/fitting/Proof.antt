@@ -12,11 +12,11 @@ use Rattle.journal.proofs.scan.fitting.Statement.{statement}
 use Rattle.journal.proofs.scan.fitting.Tie as tie
 
 abbrev Inv-loop : tie.InvT-loop
-Inv-loop s room bytes₀ entries₀ bytes entries =
-    (((bytes ≤ length s) × (entries ≤ bytes)) × (bytes ≤ room)) × Fitting s room bytes entries
+Inv-loop s space bytes₀ entries₀ bytes entries =
+    (((bytes ≤ length s) × (entries ≤ bytes)) × (bytes ≤ space)) × Fitting s space bytes entries
 
 abbrev μ-loop : tie.MeasureT-loop
-μ-loop s room bytes₀ entries₀ bytes entries = length s - bytes
+μ-loop s space bytes₀ entries₀ bytes entries = length s - bytes
 
 -- what stands after the bytes that are passed
 read : (c : tie.After-e Inv-loop μ-loop)
@@ -35,7 +35,7 @@ all-bytes : (c : tie.After-shared-slice-known Inv-loop μ-loop) → AllBytes (c 
 all-bytes c i = c .shared-slice-known .given i .fits
 
 loop-holds : tie.Need-loop-holds Inv-loop μ-loop
-loop-holds c = (omega arith, fitting-start (c .before .args .s .now) (c .before .args .room) (c .before .pre))
+loop-holds c = (omega arith, fitting-start (c .before .args .s .now) (c .before .args .space) (c .before .pre))
 
 loop-less : tie.Need-loop-less Inv-loop μ-loop
 loop-less c = omega (arith, read (c .before .before))
