@@ -2,7 +2,6 @@
 //! the lines expected of them. README.md gives the format.
 
 use obcf_second::book::{Book, Call};
-use obcf_second::edit::Answer;
 use obcf_second::lists::{list, Lent};
 use obcf_second::sample::Rng;
 
@@ -67,11 +66,7 @@ fn answers(mut lent: Lent, calls: &[Call]) -> Vec<String> {
             );
         }
         let words = match answer {
-            Ok(Answer {
-                length,
-                history_length,
-                entries,
-            }) => format!("done {length} {history_length} {entries}"),
+            Ok(answer) => answer.to_string(),
             Err(refusal) => refusal.to_string(),
         };
         let (room, history) = (checksum(&lent.room), checksum(&lent.history));

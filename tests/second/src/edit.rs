@@ -4,6 +4,7 @@
 //! An edit works on a copy of the file's bytes; the lent buffers are written
 //! only once the edit can no longer be refused.
 
+use std::fmt;
 use std::ops::Range;
 
 use crate::codeplug::{Bank, Codeplug, EMPTY_BANK_SIZE, HEADER_SIZE};
@@ -28,6 +29,17 @@ pub struct Answer {
     pub length: usize,
     pub history_length: usize,
     pub entries: usize,
+}
+
+impl fmt::Display for Answer {
+    fn fmt(&self, f: &mut fmt::Formatter<'_>) -> fmt::Result {
+        let Answer {
+            length,
+            history_length,
+            entries,
+        } = self;
+        write!(f, "done {length} {history_length} {entries}")
+    }
 }
 
 /// Makes an edit in the file `room[..length]` with the history

@@ -13,9 +13,11 @@ pub mod doubtful;
 pub mod edit;
 pub mod history;
 pub mod lists;
+pub mod play;
 pub mod record;
 pub mod refusal;
 pub mod sample;
+pub mod script;
 pub mod tone;
 
 pub use codeplug::{validate, Codeplug, Counts};

@@ -1,21 +1,29 @@
 //! `second validate` validates the file on standard input;
-//! `second corpus` writes cases with their expected answers (see README.md).
+//! `second corpus` writes cases with their expected answers; `second play` makes
+//! the calls of a script (see README.md).
 
 mod calls;
 mod corpus;
 
-use std::fs::File;
+use std::error::Error;
+use std::fs::{self, File};
 use std::io::{self, BufWriter, Read, Write};
 use std::process::ExitCode;
 
+use obcf_second::codeplug::{write_empty, HEADER_SIZE};
+use obcf_second::play::Player;
 use obcf_second::sample::Rng;
+use obcf_second::script::{self, Malformed};
 use obcf_second::{validate, Reason, Refusal};
 
 const USAGE: &str = "usage: second validate < FILE
-       second corpus files|contacts|channels|addresses|mixed|read|channels-read|written|calls SEED COUNT OUT.bin OUT.txt";
+       second corpus files|contacts|channels|addresses|mixed|read|channels-read|written|calls SEED COUNT OUT.bin OUT.txt
+       second play OPEN|empty OUT < SCRIPT";
 
-/// The program reads at most this many bytes (paper: Examples).
+/// `second validate` reads at most this many bytes (paper: Examples).
 const MOST_INPUT: u64 = 65_536;
+
+type Done = Result<(), Box<dyn Error>>;
 
 fn main() -> ExitCode {
     let arguments: Vec<String> = std::env::args().skip(1).collect();
@@ -30,13 +38,15 @@ fn main() -> ExitCode {
                 _ => return usage(),
             }
         }
+        ["play", open, out] => play(open, out),
         _ => return usage(),
     };
     match done {
         Ok(()) => ExitCode::SUCCESS,
         Err(error) => {
             eprintln!("second: {error}");
-            ExitCode::FAILURE
+            // What the caller has written wrongly is 2, as in `usage`.
+            ExitCode::from(if error.is::<Malformed>() { 2 } else { 1 })
         }
     }
 }
@@ -46,7 +56,7 @@ fn usage() -> ExitCode {
     ExitCode::from(2)
 }
 
-fn validate_input() -> io::Result<()> {
+fn validate_input() -> Done {
     let mut input = Vec::new();
     io::stdin()
         .lock()
@@ -57,7 +67,8 @@ fn validate_input() -> io::Result<()> {
     } else {
         validate(&input)
     };
-    writeln!(io::stdout(), "{}", corpus::validate_line(answer))
+    writeln!(io::stdout(), "{}", corpus::validate_line(answer))?;
+    Ok(())
 }
 
 fn write_corpus(
@@ -66,7 +77,7 @@ fn write_corpus(
     count: usize,
     bin: &str,
     txt: &str,
-) -> io::Result<()> {
+) -> Done {
     let mut rng = Rng::new(seed);
     let mut bin = BufWriter::new(File::create(bin)?);
     let mut txt = BufWriter::new(File::create(txt)?);
@@ -77,5 +88,29 @@ fn write_corpus(
         writeln!(txt, "{line}")?;
     }
     bin.flush()?;
-    txt.flush()
+    txt.flush()?;
+    Ok(())
+}
+
+/// Plays the script on standard input. All of it is read before the first call
+/// is made.
+fn play(open: &str, out: &str) -> Done {
+    let mut input = Vec::new();
+    io::stdin().lock().read_to_end(&mut input)?;
+    let script = script::read(&input)?;
+    let opening = opening(open).map_err(|error| format!("{open}: {error}"))?;
+    let mut player = Player::open(&opening).map_err(|refusal| format!("{open}: {refusal}"))?;
+    player.play(&script, &mut io::stdout().lock())?;
+    fs::write(out, player.file()).map_err(|error| format!("{out}: {error}"))?;
+    Ok(())
+}
+
+/// The file to open, or the empty codeplug for the word `empty`.
+fn opening(open: &str) -> Result<Vec<u8>, Box<dyn Error>> {
+    if open != "empty" {
+        return Ok(fs::read(open)?);
+    }
+    let mut file = vec![0; HEADER_SIZE];
+    write_empty(&mut file)?;
+    Ok(file)
 }

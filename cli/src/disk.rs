@@ -1,0 +1,185 @@
+//! Files as they lie on a disk: read with a limit, locked, and replaced as a whole.
+use crate::attributes;
+use crate::fail::{io_fail, io_words, Done, Fail};
+use codeplug::FILE_MAX;
+use std::ffi::{OsStr, OsString};
+use std::fs::{self, File, Metadata, OpenOptions, TryLockError};
+use std::io::{self, Read, Write};
+use std::os::unix::fs::{fchown, MetadataExt, OpenOptionsExt, PermissionsExt};
+use std::path::{Path, PathBuf};
+use std::time::{Duration, Instant};
+
+/// Bytes of a codeplug: of a longer file one byte more than a codeplug may have, which the library refuses.
+pub fn read_codeplug(name: &OsStr) -> Result<Vec<u8>, Fail> {
+    if name == "-" {
+        return read_most(&mut io::stdin().lock(), FILE_MAX + 1).map_err(|e| Fail::Io(format!("standard input: {}", io_words(&e))));
+    }
+    let path = Path::new(name);
+    let mut file = File::open(path).map_err(|e| io_fail(path, &e))?;
+    read_most(&mut file, FILE_MAX + 1).map_err(|e| io_fail(path, &e))
+}
+
+pub fn read_most(from: &mut impl Read, most: usize) -> io::Result<Vec<u8>> {
+    let mut bytes = Vec::new();
+    from.take(most as u64).read_to_end(&mut bytes)?;
+    Ok(bytes)
+}
+
+/// A path with more behind its name: FILE.history of FILE.
+pub fn beside(path: &Path, end: &str) -> PathBuf {
+    let mut name = OsString::from(path);
+    name.push(end);
+    PathBuf::from(name)
+}
+
+/// Whether a file is as it was when it was opened: the same one, of the same time.
+pub fn unchanged(path: &Path, before: &Metadata) -> bool {
+    let now = |now: Metadata| (now.dev(), now.ino(), now.len(), now.mtime(), now.mtime_nsec());
+    let then = (before.dev(), before.ino(), before.len(), before.mtime(), before.mtime_nsec());
+    fs::metadata(path).is_ok_and(|found| now(found) == then)
+}
+
+/// Where a path leads, links followed.
+pub fn real_path(name: &OsStr) -> Result<PathBuf, Fail> {
+    let path = Path::new(name);
+    let dangling = fs::symlink_metadata(path).is_ok_and(|m| m.is_symlink()) && !path.exists();
+    if dangling {
+        return Err(Fail::Io(format!("{}: a link that leads nowhere", path.display())));
+    }
+    fs::canonicalize(path).map_err(|e| io_fail(path, &e))
+}
+
+fn same_file(file: &File, path: &Path) -> io::Result<bool> {
+    let own = file.metadata()?;
+    match fs::metadata(path) {
+        Ok(found) => Ok((own.dev(), own.ino()) == (found.dev(), found.ino())),
+        Err(e) if e.kind() == io::ErrorKind::NotFound => Ok(false),
+        Err(e) => Err(e),
+    }
+}
+
+/// For whoever changes a file, or only reads it with its history.
+#[derive(Clone, Copy, PartialEq)]
+pub enum Lock {
+    Alone,
+    Shared,
+}
+
+/// Opens a file and locks it against other codeplugs, waiting for them as long as told. While one waits, another may put a new file in the
+/// place of the one that it has; then the new one is opened.
+pub fn open_locked(options: &OpenOptions, path: &Path, lock: Lock, wait: Duration) -> Result<File, Fail> {
+    let end = Instant::now() + wait;
+    loop {
+        let file = options.open(path).map_err(|e| io_fail(path, &e))?;
+        let locked = if lock == Lock::Alone { file.try_lock() } else { file.try_lock_shared() };
+        match locked {
+            Ok(()) if same_file(&file, path).map_err(|e| io_fail(path, &e))? => return Ok(file),
+            Ok(()) => {}
+            Err(TryLockError::Error(e)) => return Err(io_fail(path, &e)),
+            Err(TryLockError::WouldBlock) if Instant::now() >= end => {
+                return Err(Fail::Io(format!("{}: another codeplug is changing it; try again", path.display())));
+            }
+            Err(TryLockError::WouldBlock) => std::thread::sleep(Duration::from_millis(20)),
+        }
+    }
+}
+
+/// A file written beside the one that it is to replace. Removed again, unless it was renamed.
+pub struct Prepared {
+    at: PathBuf,
+    path: PathBuf,
+    file: Option<File>,
+}
+
+impl Prepared {
+    /// Writes and syncs FILE.new for a FILE that the caller has locked, with the owner, permissions and attributes of `like`.
+    pub fn replacing(path: &Path, bytes: &[u8], like: &File) -> Result<Prepared, Fail> {
+        // Left by a program that was interrupted. It may be another name of FILE, so it is not written to.
+        let _ = fs::remove_file(beside(path, ".new"));
+        let mut prepared = Prepared::open(path, 0o600)?;
+        let kept = prepared.take_after(like);
+        kept.map_err(|e| Fail::Io(format!("{}: its owner and permissions cannot be kept: {}", path.display(), io_words(&e))))?;
+        prepared.fill(bytes).map_err(|e| io_fail(path, &e))?;
+        Ok(prepared)
+    }
+
+    /// The same for a FILE that is not there yet.
+    pub fn creating(path: &Path, bytes: &[u8]) -> Result<Prepared, Fail> {
+        let mut prepared = Prepared::open(path, 0o666)?;
+        prepared.fill(bytes).map_err(|e| io_fail(path, &e))?;
+        Ok(prepared)
+    }
+
+    /// Opens FILE.new. It is locked before it takes FILE's place, so that whoever opens it there waits.
+    fn open(path: &Path, mode: u32) -> Result<Prepared, Fail> {
+        let at = beside(path, ".new");
+        let options = OpenOptions::new().read(true).write(true).create(true).truncate(false).mode(mode).clone();
+        loop {
+            let file = open_locked(&options, &at, Lock::Alone, Duration::from_secs(10))?;
+            // Where it has two names, somebody was stopped after making it FILE: it is not to be written to.
+            if file.metadata().map_err(|e| io_fail(&at, &e))?.nlink() == 1 {
+                return Ok(Prepared { at, path: path.into(), file: Some(file) });
+            }
+            fs::remove_file(&at).map_err(|e| io_fail(&at, &e))?;
+        }
+    }
+
+    fn take_after(&mut self, like: &File) -> io::Result<()> {
+        let Some(file) = &self.file else { return Ok(()) };
+        let (own, other) = (file.metadata()?, like.metadata()?);
+        if (own.uid(), own.gid()) != (other.uid(), other.gid()) {
+            fchown(file, Some(other.uid()), Some(other.gid()))?;
+        }
+        attributes::copy(like, file)?;
+        file.set_permissions(fs::Permissions::from_mode(other.mode() & 0o7777))
+    }
+
+    fn fill(&mut self, bytes: &[u8]) -> io::Result<()> {
+        let Some(file) = &mut self.file else { return Ok(()) };
+        file.set_len(0)?;
+        file.write_all(bytes)?;
+        file.sync_all()
+    }
+
+    /// Puts it in FILE's place. What is answered keeps it locked.
+    pub fn rename(mut self) -> Result<Option<File>, Fail> {
+        fs::rename(&self.at, &self.path).map_err(|e| io_fail(&self.path, &e))?;
+        Ok(self.file.take())
+    }
+
+    /// Makes it FILE, where there is none.
+    pub fn create(self) -> Done {
+        match fs::hard_link(&self.at, &self.path) {
+            // A file system without links.
+            Err(e) if e.kind() != io::ErrorKind::AlreadyExists && !self.path.exists() => self.rename().map(|_| ()),
+            other => other.map_err(|e| io_fail(&self.path, &e)),
+        }
+    }
+}
+
+impl Drop for Prepared {
+    fn drop(&mut self) {
+        if self.file.is_some() {
+            let _ = fs::remove_file(&self.at);
+        }
+    }
+}
+
+/// Has the system write a folder's names to the disk.
+pub fn sync_folder(path: &Path) -> Done {
+    let folder = path.parent().filter(|p| !p.as_os_str().is_empty()).unwrap_or(Path::new("."));
+    match File::open(folder).and_then(|folder| folder.sync_all()) {
+        // Not every file system can.
+        Err(e) if matches!(e.kind(), io::ErrorKind::Unsupported | io::ErrorKind::InvalidInput) => Ok(()),
+        other => other.map_err(|e| io_fail(folder, &e)),
+    }
+}
+
+/// Renames a file to one beside it that is not there yet, and tells which.
+pub fn set_aside(path: &Path) -> Result<PathBuf, Fail> {
+    let free = |end: &String| fs::symlink_metadata(beside(path, end)).is_err();
+    let ends = std::iter::once(".aside".to_string()).chain((2..).map(|n| format!(".aside-{n}")));
+    let aside = beside(path, &ends.into_iter().find(free).expect("there are numbers enough"));
+    fs::rename(path, &aside).map_err(|e| io_fail(path, &e))?;
+    Ok(aside)
+}

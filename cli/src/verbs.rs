@@ -1,0 +1,334 @@
+//! The verbs that change a codeplug: each is one or more of the twelve edits.
+use crate::args::Args;
+use crate::disk::{real_path, sync_folder, Prepared};
+use crate::edits::Edit;
+use crate::fail::{usage, Done, Fail};
+use crate::fields::{self, new_channel, new_contact, CHANNEL, CONTACT, HEADER};
+use crate::out::Out;
+use crate::session::{Options, Session};
+use crate::which::{place, place_of};
+use codeplug::{Channel, Codeplug, Contact, ContactInfo, Counts, Header, Refused, HEADER_SIZE};
+use std::path::Path;
+
+/// The sorts of records, as words of a command.
+const SORTS: [&str; 5] = ["contact", "channel", "bank", "entry", "header"];
+
+/// The next argument, one of some sorts.
+fn sort_of(args: &mut Args, sorts: &[&'static str]) -> Result<&'static str, Fail> {
+    let word = args.next_text("PART")?;
+    let known = SORTS.iter().find(|sort| **sort == word && sorts.contains(sort));
+    known.copied().map_or_else(|| usage(format!("'{word}' is no part: {}", sorts.join(", "))), Ok)
+}
+
+/// A record's place by an argument.
+fn which(session: &Session, sort: &str, text: &str) -> Result<usize, Fail> {
+    place_of(sort, text, &session.records.names(sort)).or_else(usage)
+}
+
+/// The record at a place; where there is none, the library's refusal of an edit there.
+fn at<'a, R>(session: &Session, records: &'a [R], n: usize, edit: Edit) -> Result<&'a R, Fail> {
+    records.get(n).ok_or_else(|| session.refused(33, edit.words(Refused { number: 33, place: 0 }, session.codeplug())))
+}
+
+fn contact_at(session: &Session, n: usize) -> Result<Contact, Fail> {
+    at(session, &session.records.contacts, n, Edit::RemoveContact(n)).cloned()
+}
+
+fn channel_at(session: &Session, n: usize) -> Result<Channel, Fail> {
+    at(session, &session.records.channels, n, Edit::RemoveChannel(n)).cloned()
+}
+
+/// A file's new empty codeplug.
+pub fn new(mut args: Args, out: &mut Out) -> Done {
+    let name = args.next("FILE")?;
+    let counts = Counts { contacts: 0, channels: 0, banks: 0 };
+    let mut header = Header { author: String::new(), description: String::new(), timestamp: 0, counts };
+    let given = fields::set(HEADER, &mut header, &mut args, &[])?;
+    args.end("new")?;
+    let mut codeplug = Codeplug::empty(0, HEADER_SIZE);
+    if !given.is_empty() {
+        let edit = set_header(header);
+        let about = name.to_string_lossy().into_owned();
+        edit.make(&mut codeplug).map_err(|refused| Fail::Refused { about, refused, words: edit.words(refused, &codeplug) })?;
+    }
+    if name == "-" {
+        return out.bytes(codeplug.bytes());
+    }
+    let path = Path::new(&name);
+    if path.symlink_metadata().is_ok() {
+        real_path(&name)?;
+        return Err(Fail::Io(format!("{}: is there already", path.display())));
+    }
+    Prepared::creating(path, codeplug.bytes())?.create()?;
+    sync_folder(path)
+}
+
+fn set_header(header: Header) -> Edit {
+    Edit::SetHeader { author: header.author, description: header.description, timestamp: header.timestamp }
+}
+
+/// Opens the file that is the next argument.
+fn open(args: &mut Args) -> Result<Session, Fail> {
+    let options = Options::of(args)?;
+    Session::open(&args.next("FILE")?, options)
+}
+
+pub fn set(mut args: Args, out: &mut Out) -> Done {
+    let options = Options::of(&mut args)?;
+    let file = args.next("FILE")?;
+    let sort = sort_of(&mut args, &["header", "contact", "channel", "bank"])?;
+    let text = if sort == "header" { String::new() } else { args.next_text("WHICH")? };
+    let mut session = Session::open(&file, options)?;
+    let n = if sort == "header" { 0 } else { which(&session, sort, &text)? };
+    let (edit, given) = match sort {
+        "header" => {
+            let mut header = session.records.header.clone();
+            let given = fields::set(HEADER, &mut header, &mut args, &[])?;
+            (set_header(header), given)
+        }
+        "contact" => {
+            let mut contact = contact_at(&session, n)?;
+            let given = set_contact(&mut contact, &mut args, true)?;
+            (Edit::ReplaceContact(n, contact), given)
+        }
+        "channel" => {
+            let mut channel = channel_at(&session, n)?;
+            let given = fields::set(CHANNEL, &mut channel, &mut args, &session.records.contacts)?;
+            (Edit::ReplaceChannel(n, channel), given)
+        }
+        _ => (Edit::RenameBank(n, bank_name(&mut args)?), vec!["name"]),
+    };
+    args.end(sort)?;
+    if given.is_empty() {
+        return usage("no field is given");
+    }
+    session.make(&edit)?;
+    session.save(out)
+}
+
+/// Sets a contact's fields. A contact that is new in its mode needs whom it calls.
+fn set_contact(contact: &mut Contact, args: &mut Args, named: bool) -> Result<Vec<&'static str>, Fail> {
+    let mode = std::mem::discriminant(&contact.info);
+    let given = fields::set(CONTACT, contact, args, &[])?;
+    let has = |option: &str| given.contains(&option);
+    let addresses = ["callsign", "broadcast", "address"].into_iter().filter(|option| has(option)).count();
+    if addresses > 1 {
+        return usage("only one of --callsign, --broadcast and --address can be given");
+    }
+    let new = !named || std::mem::discriminant(&contact.info) != mode;
+    match contact.info {
+        ContactInfo::Dmr { .. } if new && !has("id") => usage("a new DMR contact needs its --id"),
+        ContactInfo::M17(_) if new && addresses == 0 => usage("a new M17 contact needs its --callsign, --address or --broadcast"),
+        _ => Ok(given),
+    }
+}
+
+/// A bank's name by its option.
+fn bank_name(args: &mut Args) -> Result<String, Fail> {
+    match (args.value("name"), args.flag("no-name")) {
+        (Some(_), true) => usage("--name and --no-name are both given"),
+        (None, false) => usage("a bank needs --name or --no-name"),
+        (name, _) => Ok(name.unwrap_or_default()),
+    }
+}
+
+/// That a new record has what it needs.
+fn needed(given: &[&str], options: &[&str], what: &str) -> Done {
+    match options.iter().find(|option| !given.contains(option)) {
+        Some(&"name") => usage(format!("a new {what} needs --name or --no-name")),
+        Some(option) => usage(format!("a new {what} needs --{option}")),
+        None => Ok(()),
+    }
+}
+
+pub fn add(mut args: Args, out: &mut Out) -> Done {
+    let options = Options::of(&mut args)?;
+    let file = args.next("FILE")?;
+    let sort = sort_of(&mut args, &["contact", "channel", "bank", "entry"])?;
+    let at = args.number("at", usize::MAX)?;
+    let like = args.value("like");
+    let mut session = Session::open(&file, options)?;
+    let records = &session.records;
+    let edit = match sort {
+        "contact" => Edit::InsertContact(at.unwrap_or(records.contacts.len()), new_contact_of(&session, &mut args, like)?),
+        "channel" => Edit::InsertChannel(at.unwrap_or(records.channels.len()), new_channel_of(&session, &mut args, like)?),
+        _ if like.is_some() => return usage("only a contact or a channel is added --like another"),
+        "bank" => Edit::InsertBank(at.unwrap_or(records.banks.len()), bank_name(&mut args)?),
+        _ => new_entry(&session, &mut args, at)?,
+    };
+    args.end(sort)?;
+    session.make(&edit)?;
+    session.save(out)
+}
+
+fn new_contact_of(session: &Session, args: &mut Args, like: Option<String>) -> Result<Contact, Fail> {
+    let Some(like) = like else {
+        let mut contact = new_contact();
+        let given = set_contact(&mut contact, args, false)?;
+        needed(&given, &["name", "mode"], "contact")?;
+        return Ok(contact);
+    };
+    let mut contact = contact_at(session, which(session, "contact", &like)?)?;
+    set_contact(&mut contact, args, true)?;
+    Ok(contact)
+}
+
+fn new_channel_of(session: &Session, args: &mut Args, like: Option<String>) -> Result<Channel, Fail> {
+    let contacts = &session.records.contacts;
+    let Some(like) = like else {
+        let mut channel = new_channel();
+        let given = fields::set(CHANNEL, &mut channel, args, contacts)?;
+        needed(&given, &["name", "mode", "receive-frequency"], "channel")?;
+        if !given.contains(&"transmit-frequency") {
+            channel.transmit_hz = channel.receive_hz;
+        }
+        return Ok(channel);
+    };
+    let mut channel = channel_at(session, which(session, "channel", &like)?)?;
+    fields::set(CHANNEL, &mut channel, args, contacts)?;
+    Ok(channel)
+}
+
+/// A channel's number as an entry holds it.
+fn entry_of(n: usize) -> Result<u16, Fail> {
+    u16::try_from(n).or_else(|_| usage(format!("there is no channel {n}")))
+}
+
+fn new_entry(session: &Session, args: &mut Args, at: Option<usize>) -> Result<Edit, Fail> {
+    let bank = which(session, "bank", &args.next_text("BANK")?)?;
+    let channel = which(session, "channel", &args.next_text("CHANNEL")?)?;
+    let end = session.records.banks.get(bank).map_or(0, |bank| bank.entries.len());
+    Ok(Edit::InsertEntry(bank, at.unwrap_or(end), entry_of(channel)?))
+}
+
+pub fn remove(mut args: Args, out: &mut Out) -> Done {
+    let mut session = open(&mut args)?;
+    let sort = sort_of(&mut args, &["contact", "channel", "bank", "entry"])?;
+    let n = which(&session, if sort == "entry" { "bank" } else { sort }, &args.next_text("WHICH")?)?;
+    let edit = match sort {
+        "contact" => Edit::RemoveContact(n),
+        "channel" => Edit::RemoveChannel(n),
+        "bank" => Edit::RemoveBank(n),
+        _ => Edit::RemoveEntry(n, place(&args.next_text("PLACE")?)?),
+    };
+    args.end(&format!("remove {sort}"))?;
+    session.make(&edit)?;
+    session.save(out)
+}
+
+pub fn rename(mut args: Args, out: &mut Out) -> Done {
+    let mut session = open(&mut args)?;
+    let sort = sort_of(&mut args, &["contact", "channel", "bank"])?;
+    let n = which(&session, sort, &args.next_text("WHICH")?)?;
+    let name = if args.flag("no-name") { String::new() } else { args.next_text("NAME")? };
+    args.end("rename")?;
+    let edit = match sort {
+        "contact" => Edit::ReplaceContact(n, Contact { name, ..contact_at(&session, n)? }),
+        "channel" => Edit::ReplaceChannel(n, Channel { name, ..channel_at(&session, n)? }),
+        _ => Edit::RenameBank(n, name),
+    };
+    session.make(&edit)?;
+    session.save(out)
+}
+
+pub fn undo(mut args: Args, out: &mut Out) -> Done {
+    let count = args.number("count", usize::MAX)?.unwrap_or(1);
+    if count == 0 {
+        return usage("--count: 0 commands are nothing to undo");
+    }
+    let session = open(&mut args)?;
+    args.end("undo")?;
+    session.undo(count, out)
+}
+
+pub fn move_to(mut args: Args, out: &mut Out) -> Done {
+    let mut session = open(&mut args)?;
+    let sort = sort_of(&mut args, &["contact", "channel", "bank", "entry"])?;
+    let n = which(&session, if sort == "entry" { "bank" } else { sort }, &args.next_text("WHICH")?)?;
+    let from = if sort == "entry" { Some(place(&args.next_text("FROM")?)?) } else { None };
+    let to = place(&args.next_text(if sort == "entry" { "TO" } else { "PLACE" })?)?;
+    args.end("move")?;
+    match (sort, from) {
+        ("contact", _) => move_contact(&mut session, n, to)?,
+        ("channel", _) => move_channel(&mut session, n, to)?,
+        (_, Some(from)) => move_entry(&mut session, n, from, to)?,
+        _ => move_bank(&mut session, n, to)?,
+    }
+    session.save(out)
+}
+
+/// Channels that call the contact call nobody while it moves.
+fn move_contact(session: &mut Session, n: usize, to: usize) -> Done {
+    let contact = contact_at(session, n)?;
+    let calls = |channel: &&(usize, Channel)| channel.1.info.contact().map(usize::from) == Some(n);
+    let numbered: Vec<(usize, Channel)> = session.records.channels.iter().cloned().enumerate().collect();
+    let callers: Vec<(usize, Channel)> = numbered.iter().filter(calls).cloned().collect();
+    if n == to {
+        return Ok(());
+    }
+    for (c, channel) in &callers {
+        session.make(&Edit::ReplaceChannel(*c, calling(channel, None)))?;
+    }
+    session.make(&Edit::RemoveContact(n))?;
+    session.make(&Edit::InsertContact(to, contact))?;
+    for (c, channel) in &callers {
+        session.make(&Edit::ReplaceChannel(*c, calling(channel, u16::try_from(to).ok())))?;
+    }
+    Ok(())
+}
+
+/// A channel with another contact.
+fn calling(channel: &Channel, other: Option<u16>) -> Channel {
+    let mut channel = channel.clone();
+    if let codeplug::Info::Dmr { contact, .. } | codeplug::Info::M17 { contact, .. } = &mut channel.info {
+        *contact = other;
+    }
+    channel
+}
+
+/// Entries that name the channel are taken out while it moves, the last first, and put back where they were.
+fn move_channel(session: &mut Session, n: usize, to: usize) -> Done {
+    let channel = channel_at(session, n)?;
+    let banks = session.records.banks.iter().enumerate();
+    let places = |(b, bank): (usize, &crate::records::Bank)| {
+        let named = bank.entries.iter().enumerate().filter(|(_, entry)| usize::from(**entry) == n);
+        named.map(|(place, _)| (b, place)).collect::<Vec<_>>()
+    };
+    let entries: Vec<(usize, usize)> = banks.flat_map(places).collect();
+    if n == to {
+        return Ok(());
+    }
+    for (bank, place) in entries.iter().rev() {
+        session.make(&Edit::RemoveEntry(*bank, *place))?;
+    }
+    session.make(&Edit::RemoveChannel(n))?;
+    session.make(&Edit::InsertChannel(to, channel))?;
+    for (bank, place) in &entries {
+        session.make(&Edit::InsertEntry(*bank, *place, entry_of(to)?))?;
+    }
+    Ok(())
+}
+
+fn move_bank(session: &mut Session, n: usize, to: usize) -> Done {
+    let bank = at(session, &session.records.banks, n, Edit::RemoveBank(n))?;
+    let (name, entries) = (bank.name.clone(), bank.entries.clone());
+    if n == to {
+        return Ok(());
+    }
+    session.make(&Edit::RemoveBank(n))?;
+    session.make(&Edit::InsertBank(to, name))?;
+    for (place, channel) in entries.into_iter().enumerate() {
+        session.make(&Edit::InsertEntry(to, place, channel))?;
+    }
+    Ok(())
+}
+
+fn move_entry(session: &mut Session, bank: usize, from: usize, to: usize) -> Done {
+    let entries = &at(session, &session.records.banks, bank, Edit::RemoveBank(bank))?.entries;
+    let channel = *at(session, entries, from, Edit::RemoveEntry(bank, from))?;
+    if from == to {
+        return Ok(());
+    }
+    session.make(&Edit::RemoveEntry(bank, from))?;
+    session.make(&Edit::InsertEntry(bank, to, channel))
+}
