@@ -35,24 +35,25 @@ impl Args {
 
     /// The next argument, which the usage line calls `name`.
     pub fn next(&mut self, name: &str) -> Result<OsString, Fail> {
-        self.arguments.next().map_or_else(|| usage(format!("{name} is missing")), Ok)
+        match self.arguments.next() {
+            Some(word) if word.is_empty() => usage(format!("{name} is an empty string")),
+            Some(word) => Ok(word),
+            None => usage(format!("{name} is missing")),
+        }
+    }
+
+    /// The next argument as a text, which may be empty.
+    pub fn text(&mut self, name: &str) -> Result<String, Fail> {
+        let word = self.arguments.next().map_or_else(|| usage(format!("{name} is missing")), Ok)?;
+        text_of(&word).map(str::to_string)
     }
 
     pub fn next_text(&mut self, name: &str) -> Result<String, Fail> {
-        let word = self.next(name)?;
-        let text = text_of(&word)?;
-        if text.is_empty() {
-            return usage(format!("{name} is an empty string"));
-        }
-        Ok(text.to_string())
+        text_of(&self.next(name)?).map(str::to_string)
     }
 
     pub fn has_next(&self) -> bool {
         self.arguments.len() > 0
-    }
-
-    pub fn rest(&mut self) -> Vec<OsString> {
-        self.arguments.by_ref().collect()
     }
 
     /// Whether an option without a value was given; it counts as used.

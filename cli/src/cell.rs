@@ -42,7 +42,8 @@ impl Cell {
             Cell::Tone(tone @ Tone::Enabled(_)) => tone_text(*tone),
             Cell::Tone(Tone::Disabled(_)) => "off".into(),
             Cell::Text(text) => text.clone(),
-            Cell::Contact(place, name) if name.is_empty() => format!("contact {place}"),
+            // A name that would be taken for a blank.
+            Cell::Contact(place, name) if matches!(&name[..], "" | "-" | "none") => format!("contact {place}"),
             Cell::Contact(_, name) => name.clone(),
             Cell::Numbers(numbers) => numbers.iter().map(u16::to_string).collect::<Vec<_>>().join(" "),
         }
@@ -64,7 +65,7 @@ impl Cell {
             return None;
         }
         Some(match (self, other) {
-            (Cell::Text(_), Cell::Text(_)) => format!("\"{was}\" -> \"{is}\""),
+            (Cell::Text(_), Cell::Text(_)) => format!("{} -> {}", json_string(&was), json_string(&is)),
             _ if self.text() == other.text() => format!("{was} -> {is}"),
             _ => format!("{} -> {}", self.text(), other.text()),
         })

@@ -8,10 +8,13 @@ use codeplug::validate;
 use std::ffi::OsStr;
 
 pub fn check(mut args: Args, out: &mut Out) -> Done {
-    let names = args.rest();
+    let mut names = vec![args.next("FILE")?];
+    while args.has_next() {
+        names.push(args.next("FILE")?);
+    }
     args.end("check")?;
-    if names.is_empty() {
-        return usage("FILE is missing");
+    if names.iter().filter(|name| *name == "-").count() > 1 {
+        return usage("only one FILE can be standard input");
     }
     let mut worst = 0;
     for name in &names {

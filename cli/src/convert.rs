@@ -52,9 +52,9 @@ fn none(text: &str) -> Fail {
 
 pub fn callsign(mut args: Args, out: &mut Out) -> Done {
     let hex = args.flag("hex");
-    let word = args.next("TEXT")?;
+    let text = args.text("TEXT")?;
     args.end("callsign")?;
-    let Some(text) = word.to_str() else { return usage("TEXT is not UTF-8 text") };
+    let text = &text[..];
     let number = encode_callsign(text).map_err(|refused| {
         let words = callsign_words(text, refused);
         Fail::Refused { about: format!("'{text}'"), refused, words }

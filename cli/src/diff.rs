@@ -1,7 +1,7 @@
 //! What differs between two codeplugs, by records.
 use crate::align::{align, common, Aligned};
 use crate::args::Args;
-use crate::cell::Cell;
+use crate::cell::{json_string, Cell};
 use crate::explain::label;
 use crate::fail::{usage, Done};
 use crate::fields::{Field, CHANNEL, CONTACT, HEADER};
@@ -180,7 +180,7 @@ fn bank_changed(a: &Records, b: &Records, (i, j): (usize, usize), entries: (&[us
     let whose = label("bank", i, &old.name);
     let mut lines = Vec::new();
     if old.name != new.name {
-        lines.push(format!("~ {whose}: name: \"{}\" -> \"{}\"", old.name, new.name));
+        lines.push(format!("~ {whose}: name: {} -> {}", json_string(&old.name), json_string(&new.name)));
     }
     let stay = common(entries.0, entries.1);
     let (mut kept_a, mut kept_b) = (vec![false; entries.0.len()], vec![false; entries.1.len()]);

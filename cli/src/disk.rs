@@ -9,6 +9,11 @@ use std::os::unix::fs::{fchown, MetadataExt, OpenOptionsExt, PermissionsExt};
 use std::path::{Path, PathBuf};
 use std::time::{Duration, Instant};
 
+/// What a new file's name has behind that of the one that it replaces, until it does.
+const NEW: &str = ".codeplug-new";
+/// How long to wait for another program that makes the same file.
+const WAIT: Duration = Duration::from_secs(10);
+
 /// Bytes of a codeplug: of a longer file one byte more than a codeplug may have, which the library refuses.
 pub fn read_codeplug(name: &OsStr) -> Result<Vec<u8>, Fail> {
     if name == "-" {
@@ -92,36 +97,40 @@ pub struct Prepared {
 }
 
 impl Prepared {
-    /// Writes and syncs FILE.new for a FILE that the caller has locked, with the owner, permissions and attributes of `like`.
+    /// Writes and syncs the new FILE, which the caller has locked, beside it, with the owner, permissions and attributes of `like`.
     pub fn replacing(path: &Path, bytes: &[u8], like: &File) -> Result<Prepared, Fail> {
         // Left by a program that was interrupted. It may be another name of FILE, so it is not written to.
-        let _ = fs::remove_file(beside(path, ".new"));
-        let mut prepared = Prepared::open(path, 0o600)?;
+        let left = |at: &Path| fs::remove_file(at).map_err(|e| io_fail(at, &e));
+        let mut prepared = Prepared::open(path, 0o600, left)?;
         let kept = prepared.take_after(like);
         kept.map_err(|e| Fail::Io(format!("{}: its owner and permissions cannot be kept: {}", path.display(), io_words(&e))))?;
         prepared.fill(bytes).map_err(|e| io_fail(path, &e))?;
         Ok(prepared)
     }
 
-    /// The same for a FILE that is not there yet.
+    /// The same for a FILE that is not there yet, and that another program may be making too.
     pub fn creating(path: &Path, bytes: &[u8]) -> Result<Prepared, Fail> {
-        let mut prepared = Prepared::open(path, 0o666)?;
+        let mut prepared = Prepared::open(path, 0o666, remove_unlocked)?;
         prepared.fill(bytes).map_err(|e| io_fail(path, &e))?;
         Ok(prepared)
     }
 
-    /// Opens FILE.new. It is locked before it takes FILE's place, so that whoever opens it there waits.
-    fn open(path: &Path, mode: u32) -> Result<Prepared, Fail> {
-        let at = beside(path, ".new");
-        let options = OpenOptions::new().read(true).write(true).create(true).truncate(false).mode(mode).clone();
-        loop {
-            let file = open_locked(&options, &at, Lock::Alone, Duration::from_secs(10))?;
-            // Where it has two names, somebody was stopped after making it FILE: it is not to be written to.
-            if file.metadata().map_err(|e| io_fail(&at, &e))?.nlink() == 1 {
-                return Ok(Prepared { at, path: path.into(), file: Some(file) });
+    /// Makes the file, after removing by `left` what is in its place. It is locked before it takes FILE's place, so that whoever opens it
+    /// there waits.
+    fn open(path: &Path, mode: u32, left: impl Fn(&Path) -> Done) -> Result<Prepared, Fail> {
+        let at = beside(path, NEW);
+        for _ in 0..100 {
+            match OpenOptions::new().write(true).create_new(true).mode(mode).open(&at) {
+                Err(e) if e.kind() == io::ErrorKind::AlreadyExists => left(&at)?,
+                Err(e) => return Err(io_fail(&at, &e)),
+                Ok(file) if file.try_lock().is_ok() && same_file(&file, &at).unwrap_or(false) => {
+                    return Ok(Prepared { at, path: path.into(), file: Some(file) });
+                }
+                // Somebody took it for left.
+                Ok(_) => {}
             }
-            fs::remove_file(&at).map_err(|e| io_fail(&at, &e))?;
         }
+        Err(Fail::Io(format!("{}: something else is writing it", at.display())))
     }
 
     fn take_after(&mut self, like: &File) -> io::Result<()> {
@@ -142,18 +151,33 @@ impl Prepared {
     }
 
     /// Puts it in FILE's place. What is answered keeps it locked.
-    pub fn rename(mut self) -> Result<Option<File>, Fail> {
-        fs::rename(&self.at, &self.path).map_err(|e| io_fail(&self.path, &e))?;
+    pub fn rename(mut self) -> io::Result<Option<File>> {
+        fs::rename(&self.at, &self.path)?;
         Ok(self.file.take())
     }
 
     /// Makes it FILE, where there is none.
     pub fn create(self) -> Done {
-        match fs::hard_link(&self.at, &self.path) {
+        let path = self.path.clone();
+        let made = match fs::hard_link(&self.at, &self.path) {
             // A file system without links.
             Err(e) if e.kind() != io::ErrorKind::AlreadyExists && !self.path.exists() => self.rename().map(|_| ()),
-            other => other.map_err(|e| io_fail(&self.path, &e)),
-        }
+            other => other,
+        };
+        made.map_err(|e| io_fail(&path, &e))
+    }
+}
+
+/// Removes a new file that nobody is writing any more: who does so has it locked.
+fn remove_unlocked(at: &Path) -> Done {
+    let link = fs::symlink_metadata(at).is_ok_and(|found| found.is_symlink());
+    let _locked = match open_locked(OpenOptions::new().read(true), at, Lock::Alone, WAIT) {
+        Err(fail) if at.exists() && !link => return Err(fail),
+        other => other,
+    };
+    match fs::remove_file(at) {
+        Err(e) if e.kind() != io::ErrorKind::NotFound => Err(io_fail(at, &e)),
+        _ => Ok(()),
     }
 }
 
@@ -165,13 +189,26 @@ impl Drop for Prepared {
     }
 }
 
-/// Has the system write a folder's names to the disk.
-pub fn sync_folder(path: &Path) -> Done {
-    let folder = path.parent().filter(|p| !p.as_os_str().is_empty()).unwrap_or(Path::new("."));
-    match File::open(folder).and_then(|folder| folder.sync_all()) {
-        // Not every file system can.
-        Err(e) if matches!(e.kind(), io::ErrorKind::Unsupported | io::ErrorKind::InvalidInput) => Ok(()),
-        other => other.map_err(|e| io_fail(folder, &e)),
+/// A file's folder, whose names can be written to the disk.
+pub struct Folder(Option<File>);
+
+impl Folder {
+    /// Opened before anything is renamed, so that nothing fails for it afterwards. Where it may not be read, it cannot be synced.
+    pub fn of(path: &Path) -> Result<Folder, Fail> {
+        let folder = path.parent().filter(|p| !p.as_os_str().is_empty()).unwrap_or(Path::new("."));
+        match File::open(folder) {
+            Ok(file) => Ok(Folder(Some(file))),
+            Err(e) if e.kind() == io::ErrorKind::PermissionDenied => Ok(Folder(None)),
+            Err(e) => Err(io_fail(folder, &e)),
+        }
+    }
+
+    pub fn sync(&self) -> io::Result<()> {
+        match self.0.as_ref().map_or(Ok(()), File::sync_all) {
+            // Not every file system can.
+            Err(e) if matches!(e.kind(), io::ErrorKind::Unsupported | io::ErrorKind::InvalidInput) => Ok(()),
+            other => other,
+        }
     }
 }
 

@@ -1,7 +1,12 @@
 //! The twelve edits, and a refused one in words.
 use crate::explain::{label, other_mode};
 use crate::layout;
-use codeplug::{Channel, Codeplug, Contact, ContactInfo, EditAnswer, Refused};
+use codeplug::{Channel, Codeplug, Contact, ContactInfo, Counts, EditAnswer, Info, Refused};
+
+/// There is no such place.
+pub const NO_PLACE: Refused = Refused { number: 33, place: 0 };
+
+pub const HISTORY_TOO_SMALL: &str = "what undo needs of this command does not fit the history (--history-size)";
 
 pub enum Edit {
     InsertContact(usize, Contact),
@@ -36,55 +41,98 @@ impl Edit {
         }
     }
 
-    /// Why the library refused it. Numbers 5 to 8 are of what is written, with places in its record; the others of the edit.
-    pub fn words(&self, refused: Refused, codeplug: &Codeplug) -> String {
-        match refused.number {
-            5..=8 => self.bad_record(refused),
+    /// Why the library refused it: the refusal, with its place in the codeplug as it would be, and words.
+    ///
+    /// Refusals 5 to 8 are of the record that is written, which the library's writers refuse at a place in it, before the edit is tried.
+    pub fn refusal(&self, refused: Refused, codeplug: &Codeplug) -> (Refused, String) {
+        let of_record = (5..=8).contains(&refused.number);
+        if of_record && self.is_past_the_end(codeplug.counts()) {
+            return (NO_PLACE, self.no_place(codeplug));
+        }
+        let words = match refused.number {
+            5..=8 => self.bad_record(refused, codeplug),
             9 => self.bad_contact(refused, codeplug),
             33 => self.no_place(codeplug),
             35 => self.users(codeplug),
             _ => self.other(refused, codeplug),
+        };
+        let start = if of_record { self.record_start(codeplug) } else { 0 };
+        (Refused { place: start + refused.place, ..refused }, words)
+    }
+
+    /// Whether there is no place for the record: 33, which comes before any refusal of it.
+    fn is_past_the_end(&self, counts: Counts) -> bool {
+        match self {
+            Edit::InsertContact(n, _) => *n > counts.contacts.into(),
+            Edit::ReplaceContact(n, _) => *n >= counts.contacts.into(),
+            Edit::InsertChannel(n, _) => *n > counts.channels.into(),
+            Edit::ReplaceChannel(n, _) => *n >= counts.channels.into(),
+            Edit::InsertBank(n, _) => *n > counts.banks.into(),
+            Edit::RenameBank(n, _) => *n >= counts.banks.into(),
+            _ => false,
         }
     }
 
-    fn bad_record(&self, refused: Refused) -> String {
-        let (what, field, text) = match self {
+    /// Where the record that is written would begin.
+    fn record_start(&self, codeplug: &Codeplug) -> usize {
+        let file = codeplug.bytes();
+        let counts = layout::counts(file);
+        match self {
+            Edit::InsertContact(n, _) | Edit::ReplaceContact(n, _) => layout::contact_start(*n),
+            Edit::InsertChannel(n, _) | Edit::ReplaceChannel(n, _) => layout::channel_start(&counts, *n),
+            Edit::InsertBank(n, _) => layout::bank_start(file, *n) + layout::OFFSET_SIZE,
+            Edit::RenameBank(n, _) => layout::bank_start(file, *n),
+            _ => layout::AUTHOR,
+        }
+    }
+
+    /// The record that is written, in words.
+    fn written(&self, codeplug: &Codeplug) -> String {
+        match self {
+            Edit::InsertContact(..) => "new contact".into(),
+            Edit::InsertChannel(..) => "new channel".into(),
+            Edit::InsertBank(..) => "new bank".into(),
+            Edit::ReplaceContact(n, _) => contact_of(codeplug, *n),
+            Edit::ReplaceChannel(n, _) => channel_of(codeplug, *n),
+            Edit::RenameBank(n, _) => bank_of(codeplug, *n),
+            _ => "header".into(),
+        }
+    }
+
+    fn bad_record(&self, refused: Refused, codeplug: &Codeplug) -> String {
+        let (field, text) = match self {
             Edit::InsertContact(_, contact) | Edit::ReplaceContact(_, contact) => {
                 let mode = if matches!(contact.info, ContactInfo::M17(_)) { 2 } else { 1 };
-                ("contact", layout::contact_field(mode, refused.place), contact.name.as_str())
+                (layout::contact_field(mode, refused.place), &contact.name)
             }
             Edit::InsertChannel(_, channel) | Edit::ReplaceChannel(_, channel) => {
-                let field = layout::channel_field(channel.info.mode(), refused.place);
-                ("channel", field, if field == "name" { &channel.name[..] } else { &channel.description })
+                let field = nibble(&channel.info, layout::channel_field(channel.info.mode(), refused.place));
+                (field, if field == "name" { &channel.name } else { &channel.description })
             }
-            Edit::SetHeader { author, .. } if refused.place == 0 => ("header", "author", author.as_str()),
-            Edit::SetHeader { description, .. } => ("header", "description", description.as_str()),
-            Edit::InsertBank(_, name) | Edit::RenameBank(_, name) => ("bank", "name", name.as_str()),
+            Edit::SetHeader { author, .. } if refused.place == 0 => ("author", author),
+            Edit::SetHeader { description, .. } => ("description", description),
+            Edit::InsertBank(_, name) | Edit::RenameBank(_, name) => ("name", name),
             _ => return refused.text().into(),
         };
         let fault = if refused.number == 5 { bad_text(text) } else { rule(field).to_string() };
-        format!("{what}, {field}: {fault}")
+        format!("{}, {field}: {fault}", self.written(codeplug))
     }
 
     fn bad_contact(&self, refused: Refused, codeplug: &Codeplug) -> String {
-        let counts = codeplug.counts();
-        match self {
-            Edit::InsertChannel(_, channel) | Edit::ReplaceChannel(_, channel) => {
-                let contact = channel.info.contact().unwrap_or(0);
-                if contact >= counts.contacts {
-                    return format!("channel, contact: there is no contact {contact}: the codeplug has {}", counts.contacts);
-                }
-                format!("channel, contact: {}", other_mode(&contact_of(codeplug, contact.into()), channel.info.mode()))
-            }
-            _ => {
-                let first = layout::contact_start(counts.contacts.into());
-                let n = (refused.place - first.min(refused.place)) / codeplug::CHANNEL_SIZE;
-                format!("contact, mode: {} calls it, and has another", channel_of(codeplug, n))
-            }
+        let count = codeplug.counts().contacts;
+        let written = self.written(codeplug);
+        let (Edit::InsertChannel(_, channel) | Edit::ReplaceChannel(_, channel)) = self else {
+            let first = layout::contact_start(count.into());
+            let caller = (refused.place - first.min(refused.place)) / codeplug::CHANNEL_SIZE;
+            return format!("{written}, mode: {} calls it, and has another", channel_of(codeplug, caller));
+        };
+        match channel.info.contact().unwrap_or(0) {
+            contact if contact >= count => format!("{written}, contact: there is no contact {contact}: the codeplug has {count}"),
+            contact => format!("{written}, contact: {}", other_mode(&contact_of(codeplug, contact.into()), channel.info.mode())),
         }
     }
 
-    fn no_place(&self, codeplug: &Codeplug) -> String {
+    pub fn no_place(&self, codeplug: &Codeplug) -> String {
         let counts = codeplug.counts();
         let no = |kind: &str, n: &usize, count: u16| format!("there is no {kind} {n}: the codeplug has {count}");
         let past = |kind: &str, n: &usize, count: u16| format!("place {n} is past the end: a new {kind} has a place from 0 to {count}");
@@ -131,17 +179,13 @@ impl Edit {
         match (refused.number, self) {
             (1, _) => format!("the codeplug would be longer than {} bytes", codeplug::FILE_MAX),
             (11, Edit::InsertEntry(_, _, channel)) => {
-                format!("bank, entry: there is no channel {channel}: the codeplug has {}", codeplug.counts().channels)
+                format!("there is no channel {channel}: the codeplug has {}", codeplug.counts().channels)
             }
             (34, Edit::InsertEntry(bank, ..)) => format!("{} has 65535 entries already", bank_of(codeplug, *bank)),
-            (37, _) => history_too_small(),
+            (37, _) => HISTORY_TOO_SMALL.into(),
             _ => refused.text().into(),
         }
     }
-}
-
-pub fn history_too_small() -> String {
-    "the history is too small for what undo needs of this command: give it more by --history-size".into()
 }
 
 pub fn contact_of(codeplug: &Codeplug, n: usize) -> String {
@@ -163,6 +207,17 @@ fn bad_text(text: &str) -> String {
     }
 }
 
+/// Which of the two numbers of a byte was refused; any other field as it is.
+fn nibble(info: &Info, field: &'static str) -> &'static str {
+    match info {
+        Info::Dmr { receive_colour: 16.., .. } if field == "colours" => "receive colour",
+        Info::Dmr { .. } if field == "colours" => "transmit colour",
+        Info::M17 { receive_access: 16.., .. } if field == "access numbers" => "receive access",
+        Info::M17 { .. } if field == "access numbers" => "transmit access",
+        _ => field,
+    }
+}
+
 /// What a value has to be, where a writer refused it.
 fn rule(field: &str) -> &'static str {
     match field {
@@ -170,7 +225,7 @@ fn rule(field: &str) -> &'static str {
         "group list" => "has to be 1 to 128, or none",
         "latitude" => "has to be -90 to 90",
         "latitude's ten-thousandths" => "has to be at most 90 degrees",
-        "colours" | "access numbers" => "each has to be 0 to 15",
+        "receive colour" | "transmit colour" | "receive access" | "transmit access" => "has to be 0 to 15",
         "slot" => "has to be 1 or 2",
         "address" => "has to be that of a callsign, 1 to 262143999999999",
         _ => "is outside its rule",

@@ -127,5 +127,6 @@ pub fn other_mode(contact: &str, channel_mode: u8) -> String {
 fn bad_offset(file: &[u8], place: usize, part: &Part) -> String {
     let n = if let Part::Offset(n) = part { *n } else { 0 };
     let offset = layout::two(file, place) + 65_536 * layout::two(file, place + 2);
-    format!("{offset}, and the bank stands at {}", layout::bank_offset(file, n))
+    let start = layout::bank_start(file, n) - layout::banks_start(&layout::counts(file));
+    format!("{offset}, and the bank stands at {start}")
 }

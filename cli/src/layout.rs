@@ -1,4 +1,5 @@
 //! Where a file's records and their fields stand, by document 01: for words alone, after the library has refused a file at a place.
+use codeplug::{CHANNEL_SIZE, CONTACT_SIZE, HEADER_SIZE};
 
 /// A field of a record that begins at an offset.
 type Fields = &'static [(usize, &'static str)];
@@ -36,9 +37,10 @@ const DMR_INFO: Fields = &[(85, "colours"), (86, "slot"), (87, "contact"), (89, 
 const M17_INFO: Fields = &[(85, "access numbers"), (86, "operation and encryption"), (87, "position"), (88, "contact")];
 const BANK: Fields = &[(0, "name"), (32, "entry count")];
 
-const HEADER_SIZE: usize = codeplug::HEADER_SIZE;
-const CONTACT_SIZE: usize = codeplug::CONTACT_SIZE;
-const CHANNEL_SIZE: usize = codeplug::CHANNEL_SIZE;
+/// A bank's offset in the table.
+pub const OFFSET_SIZE: usize = 4;
+/// Where the header's author stands, and behind it all that edit 12 sets.
+pub const AUTHOR: usize = 10;
 
 fn at(fields: Fields, offset: usize) -> (usize, &'static str) {
     *fields.iter().rev().find(|(start, _)| *start <= offset).unwrap_or(&fields[0])
@@ -108,7 +110,7 @@ pub fn offsets_start(counts: &Counts) -> usize {
 pub fn find(file: &[u8], place: usize) -> Found {
     let counts = counts(file);
     let (contacts, channels, offsets) = (contact_start(0), channel_start(&counts, 0), offsets_start(&counts));
-    let banks = offsets + 4 * counts.banks;
+    let banks = banks_start(&counts);
     let mode = |at: usize| file.get(at).copied().unwrap_or(0);
     if place < contacts {
         return Found { part: Part::Header, start: 0, field: header_field(place) };
@@ -124,8 +126,8 @@ pub fn find(file: &[u8], place: usize) -> Found {
         return Found { part: Part::Channel(n), start, field: channel_field(mode(start), place - start) };
     }
     if place < banks {
-        let n = (place - offsets) / 4;
-        return Found { part: Part::Offset(n), start: offsets + 4 * n, field: "offset" };
+        let n = (place - offsets) / OFFSET_SIZE;
+        return Found { part: Part::Offset(n), start: offsets + OFFSET_SIZE * n, field: "offset" };
     }
     find_in_banks(file, place, banks, counts.banks)
 }
@@ -147,10 +149,12 @@ fn find_in_banks(file: &[u8], place: usize, first: usize, count: usize) -> Found
     Found { part: Part::Behind, start, field: "" }
 }
 
-/// Where bank n's offset should point: the end of the bank before it, counted from the first bank.
-pub fn bank_offset(file: &[u8], n: usize) -> usize {
-    let counts = counts(file);
-    let first = offsets_start(&counts) + 4 * counts.banks;
+/// Where bank n begins: at the end of the bank before it.
+pub fn bank_start(file: &[u8], n: usize) -> usize {
     let end = |start: usize, _| start + 34 + 2 * two(file, start + 32);
-    (0..n).fold(first, end) - first
+    (0..n).fold(banks_start(&counts(file)), end)
+}
+
+pub fn banks_start(counts: &Counts) -> usize {
+    offsets_start(counts) + OFFSET_SIZE * counts.banks
 }

@@ -14,6 +14,7 @@ mod fields;
 mod help;
 mod history;
 mod layout;
+mod moves;
 mod out;
 mod records;
 mod rows;
@@ -74,7 +75,7 @@ fn make(verb: &str, args: Args, out: &mut Out) -> Done {
         "add" => verbs::add(args, out),
         "remove" => verbs::remove(args, out),
         "rename" => verbs::rename(args, out),
-        "move" => verbs::move_to(args, out),
+        "move" => moves::move_to(args, out),
         "undo" => verbs::undo(args, out),
         "history" => session::history(args, out),
         "diff" => diff::diff(args, out),

@@ -1,9 +1,9 @@
 //! A codeplug that is open for a command: read under a lock with its history, edited, and saved as a whole.
 use crate::args::Args;
 use crate::diff::{changes, print};
-use crate::disk::{beside, open_locked, read_codeplug, read_most, real_path, set_aside, sync_folder, unchanged, Lock, Prepared};
-use crate::edits::{history_too_small, Edit};
-use crate::fail::{io_fail, usage, Done, Fail};
+use crate::disk::{beside, open_locked, read_codeplug, read_most, real_path, set_aside, unchanged, Folder, Lock, Prepared};
+use crate::edits::{Edit, HISTORY_TOO_SMALL};
+use crate::fail::{io_fail, io_words, usage, Done, Fail};
 use crate::history::{History, LARGEST_SIZE};
 use crate::out::{say, Out};
 use crate::records::Records;
@@ -46,8 +46,8 @@ pub fn wait_of(args: &mut Args) -> Result<Duration, Fail> {
 struct Place {
     path: PathBuf,
     opened: Metadata,
-    /// Whether FILE.history does not belong to the file.
-    foreign: bool,
+    /// Why FILE.history is not used.
+    foreign: Option<&'static str>,
     locked: File,
 }
 
@@ -59,8 +59,11 @@ pub struct Session {
     options: Options,
     history: History,
     codeplug: Codeplug,
+    /// How many bytes the codeplug's history can hold.
+    width: usize,
     /// As it was opened.
     pub records: Records,
+    file: Vec<u8>,
     made: usize,
 }
 
@@ -81,12 +84,19 @@ fn read_locked(name: &OsStr, lock: Lock, wait: Duration) -> Result<Read, Fail> {
     let mut locked = open_locked(&options, &path, lock, wait)?;
     let opened = locked.metadata().map_err(|e| io_fail(&path, &e))?;
     let file = read_most(&mut locked, FILE_MAX + 1).map_err(|e| io_fail(&path, &e))?;
-    let stored = read_history(&beside(&path, ".history"))?;
-    let history = stored.as_ref().map(|bytes| History::parse(bytes).and_then(|history| history.of_file(&file)));
-    let foreign = matches!(history, Some(None));
-    let history = history.flatten().unwrap_or_else(|| History::new(&file));
+    let (history, foreign) = match read_history(&beside(&path, ".history"))?.map(|stored| History::parse(&stored)) {
+        None => (None, None),
+        Some(None) => (None, Some("is damaged, or no history that this program knows")),
+        Some(Some(history)) => match history.of_file(&file) {
+            Some(history) => (Some(history), None),
+            None => (None, Some(NOT_ITS_OWN)),
+        },
+    };
+    let history = history.unwrap_or_else(|| History::new(&file));
     Ok(Read { place: Place { path, opened, foreign, locked }, file, history })
 }
+
+const NOT_ITS_OWN: &str = "does not belong to the file any more, which something else changed";
 
 /// What a history's file holds; none where there is none. A file that is longer than any history is cut, and so none.
 fn read_history(path: &Path) -> Result<Option<Vec<u8>>, Fail> {
@@ -114,8 +124,8 @@ impl Session {
         let refused = |refused: Refused| refused_open(name, &file, refused);
         let records = Records::of(&file).map_err(refused)?;
         history.size = options.history_size.unwrap_or(history.size);
-        let codeplug = Codeplug::restore(&file, &history.bytes, FILE_MAX, history.size).map_err(refused)?;
-        Ok(Session { name: shown, place, options, history, codeplug, records, made: 0 })
+        let codeplug = Codeplug::restore(&file, &history.bytes, FILE_MAX, 0).map_err(refused)?;
+        Ok(Session { name: shown, place, options, history, codeplug, width: 0, records, file, made: 0 })
     }
 
     pub fn codeplug(&self) -> &Codeplug {
@@ -128,19 +138,35 @@ impl Session {
 
     /// Makes an edit. Where it is refused the command ends, and nothing is saved.
     pub fn make(&mut self, edit: &Edit) -> Done {
-        let answer = edit.make(&mut self.codeplug);
-        let words = |refused| edit.words(refused, &self.codeplug);
-        answer.map_err(|refused| Fail::Refused { about: self.name.clone(), refused, words: words(refused) })?;
+        self.widen()?;
+        edit.make(&mut self.codeplug).map_err(|refused| {
+            let (refused, words) = edit.refusal(refused, &self.codeplug);
+            Fail::Refused { about: self.name.clone(), refused, words }
+        })?;
         self.made += 1;
+        Ok(())
+    }
+
+    /// Gives the history the bytes that an edit may need, so that small commands need little memory: an entry has at most the codeplug's
+    /// bytes and 9 more. Never more than its size.
+    fn widen(&mut self) -> Done {
+        let needed = self.codeplug.history().len() + self.codeplug.bytes().len() + 9;
+        if needed <= self.width || self.width >= self.history.size {
+            return Ok(());
+        }
+        self.width = (2 * needed).min(self.history.size);
+        let wider = Codeplug::restore(self.codeplug.bytes(), self.codeplug.history(), FILE_MAX, self.width);
+        self.codeplug = wider.map_err(|r| self.refused(r.number, r.text().into()))?;
         Ok(())
     }
 
     /// Saves what was made.
     pub fn save(mut self, out: &mut Out) -> Done {
-        if self.place.is_some() && self.made > 0 {
+        let changed = self.codeplug.bytes() != self.file;
+        if self.place.is_some() && changed {
             self.history.add(self.codeplug.history(), self.made, self.codeplug.bytes());
             if self.history.commands.is_empty() {
-                return Err(self.refused(37, history_too_small()));
+                return Err(self.refused(37, HISTORY_TOO_SMALL.into()));
             }
         }
         self.tell(out)?;
@@ -148,15 +174,14 @@ impl Session {
             return Ok(());
         }
         let Some(place) = &self.place else { return out.bytes(self.codeplug.bytes()) };
-        if self.made == 0 {
+        if !changed {
             return Ok(());
         }
         let (history, codeplug) = prepare(place, &self.history, self.codeplug.bytes())?;
-        if place.foreign {
-            aside(place, false)?;
+        if let Some(why) = place.foreign {
+            aside(place, why, false)?;
         }
-        // In this order the history has the state that the file is in, whenever the program ends.
-        replace(history, codeplug, place)
+        replace(place, codeplug, history, Order::HistoryFirst)
     }
 
     /// What is or would be changed, where it is asked for.
@@ -177,9 +202,9 @@ impl Session {
     pub fn undo(mut self, count: usize, out: &mut Out) -> Done {
         let Some(place) = &self.place else { return usage("there is no history of standard input to undo") };
         let there = self.history.commands.len();
-        let fits = !place.foreign && (0..count.min(there)).all(|n| take_back(&mut self.codeplug, &self.history, n));
-        if !fits {
-            aside(place, self.options.dry_run)?;
+        let fits = (0..count.min(there)).all(|n| take_back(&mut self.codeplug, &self.history, n));
+        if let Some(why) = place.foreign.or((!fits).then_some(NOT_ITS_OWN)) {
+            aside(place, why, self.options.dry_run)?;
             return Err(self.refused(38, "there is nothing to undo".into()));
         }
         if there < count {
@@ -193,17 +218,30 @@ impl Session {
         }
         self.history.take_back(self.codeplug.history(), count);
         let (history, codeplug) = prepare(place, &self.history, self.codeplug.bytes())?;
-        // The other way round than after an edit: the old history has the state before, the new one has not the state after.
-        replace(codeplug, history, place)
+        replace(place, codeplug, history, Order::CodeplugFirst)
     }
 }
 
-/// Puts two files in their places, the first one on the disk before the second. Both stay locked until both are there.
-fn replace(first: Prepared, second: Prepared, place: &Place) -> Done {
-    let _first = first.rename()?;
-    sync_folder(&place.path)?;
-    let _second = second.rename()?;
-    sync_folder(&place.path)
+/// Puts a new codeplug and its history in their places, in an order by which the history always has the state that the file is in, and the
+/// first on the disk before the second. Both stay locked until both are there.
+fn replace(place: &Place, codeplug: Prepared, history: Prepared, order: Order) -> Done {
+    let folder = Folder::of(&place.path)?;
+    let failed = |e: io::Error, saved: bool| match saved {
+        true => Fail::Io(format!("{}: is saved, but not surely on the disk: {}", place.path.display(), io_words(&e))),
+        false => io_fail(&place.path, &e),
+    };
+    let codeplug_first = order == Order::CodeplugFirst;
+    let (first, second) = if codeplug_first { (codeplug, history) } else { (history, codeplug) };
+    let _first = first.rename().map_err(|e| failed(e, false))?;
+    let _second = folder.sync().and_then(|()| second.rename()).map_err(|e| failed(e, codeplug_first))?;
+    folder.sync().map_err(|e| failed(e, true))
+}
+
+/// After an edit the new history has the state before and after it. After an undo only the old history has.
+#[derive(Clone, Copy, PartialEq)]
+enum Order {
+    HistoryFirst,
+    CodeplugFirst,
 }
 
 /// Writes both new files beside the old ones.
@@ -217,10 +255,10 @@ fn prepare(place: &Place, history: &History, bytes: &[u8]) -> Result<(Prepared, 
 }
 
 /// Sets a history aside that does not belong to its file, and says so.
-fn aside(place: &Place, dry_run: bool) -> Done {
+fn aside(place: &Place, why: &str, dry_run: bool) -> Done {
     let history = beside(&place.path, ".history");
-    let done = if dry_run { String::new() } else { format!(", set aside as {}", set_aside(&history)?.display()) };
-    say(&format!("codeplug: {}: does not belong to the file any more{done}", history.display()));
+    let done = if dry_run { String::new() } else { format!("; set aside as {}", set_aside(&history)?.display()) };
+    say(&format!("codeplug: {}: {why}{done}", history.display()));
     Ok(())
 }
 
@@ -242,15 +280,15 @@ pub fn history(mut args: Args, out: &mut Out) -> Done {
     let Read { place, file, history } = read_locked(&name, Lock::Shared, wait)?;
     let refused = |refused: Refused| refused_open(&name, &file, refused);
     let mut newer = Records::of(&file).map_err(refused)?;
-    if place.foreign {
-        aside(&place, true)?;
+    if let Some(why) = place.foreign {
+        aside(&place, why, true)?;
     }
     // Nobody has to wait while this is read.
     let Place { path, .. } = place;
     let mut codeplug = Codeplug::restore(&file, &history.bytes, FILE_MAX, 0).map_err(refused)?;
     for n in 0..history.commands.len().min(most) {
         if !take_back(&mut codeplug, &history, n) {
-            return Err(Fail::Io(format!("{}: does not belong to the file any more", beside(&path, ".history").display())));
+            return Err(Fail::Io(format!("{}: {NOT_ITS_OWN}", beside(&path, ".history").display())));
         }
         let older = Records::of(codeplug.bytes()).map_err(refused)?;
         let lines = changes(&older, &newer);

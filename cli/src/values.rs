@@ -1,4 +1,5 @@
 //! Values as people write them, to and from numbers: exact, so that nothing is rounded.
+use crate::args::whole;
 
 /// A decimal number as whole units of its last digit: "88.5" with one digit is 885. None where it is no number, or has more digits after
 /// the point.
@@ -54,10 +55,10 @@ pub fn dbm(power: u8) -> String {
     fixed_text(100 + 2 * i64::from(power), 1, 1)
 }
 
-/// Degrees as the format stores them: the floor, and ten-thousandths above it.
-pub fn degrees(text: &str, name: &str) -> Result<(i8, u16), String> {
+/// Degrees as the format stores them: the floor, and ten-thousandths above it. `range` is said where they are none.
+pub fn degrees(text: &str, range: &str) -> Result<(i8, u16), String> {
     let e4 = fixed(text, 4).and_then(|e4| Some((i8::try_from(e4.div_euclid(10_000)).ok()?, e4.rem_euclid(10_000) as u16)));
-    e4.ok_or(format!("'{text}' is no {name}: degrees from -128 to 127.9999, with at most four digits after the point"))
+    e4.ok_or(format!("'{text}' is not degrees from {range}, with at most four digits after the point"))
 }
 
 pub fn degrees_text(floor: i8, e4: u16) -> String {
@@ -77,16 +78,16 @@ pub fn word(text: &str, words: &[&str]) -> Result<u8, String> {
 
 /// A number that its field can hold; whether it is within its rule, the library says.
 pub fn small(text: &str) -> Result<u8, String> {
-    crate::args::whole(text, 255).map(|n| n as u8).ok_or(format!("'{text}' is no number"))
+    whole(text, 255).map(|n| n as u8).ok_or(format!("'{text}' is no number from 0 to 255"))
 }
 
 /// A number from 1, or none, which is stored as 0.
 pub fn list(text: &str) -> Result<u8, String> {
-    match (text, small(text)) {
-        ("none", _) => Ok(0),
-        (_, Ok(0)) => Err("0 is no list; to be in none is asked for by 'none'".into()),
-        (_, Ok(n)) => Ok(n),
-        _ => Err(format!("'{text}' is neither a number nor 'none'")),
+    match small(text) {
+        _ if text.eq_ignore_ascii_case("none") => Ok(0),
+        Ok(0) => Err("0 is no list; to be in none is asked for by 'none'".into()),
+        Ok(n) => Ok(n),
+        Err(_) => Err(format!("'{text}' is neither a number from 1 to 255 nor 'none'")),
     }
 }
 
@@ -94,7 +95,8 @@ pub fn list(text: &str) -> Result<u8, String> {
 pub fn address(text: &str) -> Result<u64, String> {
     let hex = text.strip_prefix("0x").or(text.strip_prefix("0X"));
     let digits = |s: &str, radix| s.chars().all(|c| c.is_digit(radix)).then(|| u64::from_str_radix(s, radix).ok()).flatten();
-    hex.map_or_else(|| digits(text, 10), |hex| digits(hex, 16)).ok_or(format!("'{text}' is no number"))
+    let number = hex.map_or_else(|| digits(text, 10), |hex| digits(hex, 16));
+    number.ok_or(format!("'{text}' is no number from 0 to {}", u64::MAX))
 }
 
 /// Seconds since 1970, or the present time.

@@ -1,41 +1,41 @@
 //! The verbs that change a codeplug: each is one or more of the twelve edits.
 use crate::args::Args;
-use crate::disk::{real_path, sync_folder, Prepared};
-use crate::edits::Edit;
-use crate::fail::{usage, Done, Fail};
+use crate::disk::{real_path, Folder, Prepared};
+use crate::edits::{Edit, NO_PLACE};
+use crate::fail::{io_fail, usage, Done, Fail};
 use crate::fields::{self, new_channel, new_contact, CHANNEL, CONTACT, HEADER};
 use crate::out::Out;
 use crate::session::{Options, Session};
 use crate::which::{place, place_of};
-use codeplug::{Channel, Codeplug, Contact, ContactInfo, Counts, Header, Refused, HEADER_SIZE};
+use codeplug::{Channel, Codeplug, Contact, ContactInfo, Counts, Header, HEADER_SIZE};
 use std::path::Path;
 
 /// The sorts of records, as words of a command.
 const SORTS: [&str; 5] = ["contact", "channel", "bank", "entry", "header"];
 
 /// The next argument, one of some sorts.
-fn sort_of(args: &mut Args, sorts: &[&'static str]) -> Result<&'static str, Fail> {
+pub fn sort_of(args: &mut Args, sorts: &[&'static str]) -> Result<&'static str, Fail> {
     let word = args.next_text("PART")?;
     let known = SORTS.iter().find(|sort| **sort == word && sorts.contains(sort));
     known.copied().map_or_else(|| usage(format!("'{word}' is no part: {}", sorts.join(", "))), Ok)
 }
 
 /// A record's place by an argument.
-fn which(session: &Session, sort: &str, text: &str) -> Result<usize, Fail> {
+pub fn which(session: &Session, sort: &str, text: &str) -> Result<usize, Fail> {
     place_of(sort, text, &session.records.names(sort)).or_else(usage)
 }
 
 /// The record at a place; where there is none, the library's refusal of an edit there.
-fn at<'a, R>(session: &Session, records: &'a [R], n: usize, edit: Edit) -> Result<&'a R, Fail> {
-    records.get(n).ok_or_else(|| session.refused(33, edit.words(Refused { number: 33, place: 0 }, session.codeplug())))
+pub fn record_at<'a, R>(session: &Session, records: &'a [R], n: usize, edit: Edit) -> Result<&'a R, Fail> {
+    records.get(n).ok_or_else(|| session.refused(NO_PLACE.number, edit.no_place(session.codeplug())))
 }
 
-fn contact_at(session: &Session, n: usize) -> Result<Contact, Fail> {
-    at(session, &session.records.contacts, n, Edit::RemoveContact(n)).cloned()
+pub fn contact_at(session: &Session, n: usize) -> Result<Contact, Fail> {
+    record_at(session, &session.records.contacts, n, Edit::RemoveContact(n)).cloned()
 }
 
-fn channel_at(session: &Session, n: usize) -> Result<Channel, Fail> {
-    at(session, &session.records.channels, n, Edit::RemoveChannel(n)).cloned()
+pub fn channel_at(session: &Session, n: usize) -> Result<Channel, Fail> {
+    record_at(session, &session.records.channels, n, Edit::RemoveChannel(n)).cloned()
 }
 
 /// A file's new empty codeplug.
@@ -48,8 +48,10 @@ pub fn new(mut args: Args, out: &mut Out) -> Done {
     let mut codeplug = Codeplug::empty(0, HEADER_SIZE);
     if !given.is_empty() {
         let edit = set_header(header);
-        let about = name.to_string_lossy().into_owned();
-        edit.make(&mut codeplug).map_err(|refused| Fail::Refused { about, refused, words: edit.words(refused, &codeplug) })?;
+        edit.make(&mut codeplug).map_err(|refused| {
+            let (refused, words) = edit.refusal(refused, &codeplug);
+            Fail::Refused { about: name.to_string_lossy().into_owned(), refused, words }
+        })?;
     }
     if name == "-" {
         return out.bytes(codeplug.bytes());
@@ -59,8 +61,9 @@ pub fn new(mut args: Args, out: &mut Out) -> Done {
         real_path(&name)?;
         return Err(Fail::Io(format!("{}: is there already", path.display())));
     }
+    let folder = Folder::of(path)?;
     Prepared::creating(path, codeplug.bytes())?.create()?;
-    sync_folder(path)
+    folder.sync().map_err(|e| io_fail(path, &e))
 }
 
 fn set_header(header: Header) -> Edit {
@@ -68,7 +71,7 @@ fn set_header(header: Header) -> Edit {
 }
 
 /// Opens the file that is the next argument.
-fn open(args: &mut Args) -> Result<Session, Fail> {
+pub fn open(args: &mut Args) -> Result<Session, Fail> {
     let options = Options::of(args)?;
     Session::open(&args.next("FILE")?, options)
 }
@@ -190,7 +193,7 @@ fn new_channel_of(session: &Session, args: &mut Args, like: Option<String>) -> R
 }
 
 /// A channel's number as an entry holds it.
-fn entry_of(n: usize) -> Result<u16, Fail> {
+pub fn entry_of(n: usize) -> Result<u16, Fail> {
     u16::try_from(n).or_else(|_| usage(format!("there is no channel {n}")))
 }
 
@@ -239,96 +242,4 @@ pub fn undo(mut args: Args, out: &mut Out) -> Done {
     let session = open(&mut args)?;
     args.end("undo")?;
     session.undo(count, out)
-}
-
-pub fn move_to(mut args: Args, out: &mut Out) -> Done {
-    let mut session = open(&mut args)?;
-    let sort = sort_of(&mut args, &["contact", "channel", "bank", "entry"])?;
-    let n = which(&session, if sort == "entry" { "bank" } else { sort }, &args.next_text("WHICH")?)?;
-    let from = if sort == "entry" { Some(place(&args.next_text("FROM")?)?) } else { None };
-    let to = place(&args.next_text(if sort == "entry" { "TO" } else { "PLACE" })?)?;
-    args.end("move")?;
-    match (sort, from) {
-        ("contact", _) => move_contact(&mut session, n, to)?,
-        ("channel", _) => move_channel(&mut session, n, to)?,
-        (_, Some(from)) => move_entry(&mut session, n, from, to)?,
-        _ => move_bank(&mut session, n, to)?,
-    }
-    session.save(out)
-}
-
-/// Channels that call the contact call nobody while it moves.
-fn move_contact(session: &mut Session, n: usize, to: usize) -> Done {
-    let contact = contact_at(session, n)?;
-    let calls = |channel: &&(usize, Channel)| channel.1.info.contact().map(usize::from) == Some(n);
-    let numbered: Vec<(usize, Channel)> = session.records.channels.iter().cloned().enumerate().collect();
-    let callers: Vec<(usize, Channel)> = numbered.iter().filter(calls).cloned().collect();
-    if n == to {
-        return Ok(());
-    }
-    for (c, channel) in &callers {
-        session.make(&Edit::ReplaceChannel(*c, calling(channel, None)))?;
-    }
-    session.make(&Edit::RemoveContact(n))?;
-    session.make(&Edit::InsertContact(to, contact))?;
-    for (c, channel) in &callers {
-        session.make(&Edit::ReplaceChannel(*c, calling(channel, u16::try_from(to).ok())))?;
-    }
-    Ok(())
-}
-
-/// A channel with another contact.
-fn calling(channel: &Channel, other: Option<u16>) -> Channel {
-    let mut channel = channel.clone();
-    if let codeplug::Info::Dmr { contact, .. } | codeplug::Info::M17 { contact, .. } = &mut channel.info {
-        *contact = other;
-    }
-    channel
-}
-
-/// Entries that name the channel are taken out while it moves, the last first, and put back where they were.
-fn move_channel(session: &mut Session, n: usize, to: usize) -> Done {
-    let channel = channel_at(session, n)?;
-    let banks = session.records.banks.iter().enumerate();
-    let places = |(b, bank): (usize, &crate::records::Bank)| {
-        let named = bank.entries.iter().enumerate().filter(|(_, entry)| usize::from(**entry) == n);
-        named.map(|(place, _)| (b, place)).collect::<Vec<_>>()
-    };
-    let entries: Vec<(usize, usize)> = banks.flat_map(places).collect();
-    if n == to {
-        return Ok(());
-    }
-    for (bank, place) in entries.iter().rev() {
-        session.make(&Edit::RemoveEntry(*bank, *place))?;
-    }
-    session.make(&Edit::RemoveChannel(n))?;
-    session.make(&Edit::InsertChannel(to, channel))?;
-    for (bank, place) in &entries {
-        session.make(&Edit::InsertEntry(*bank, *place, entry_of(to)?))?;
-    }
-    Ok(())
-}
-
-fn move_bank(session: &mut Session, n: usize, to: usize) -> Done {
-    let bank = at(session, &session.records.banks, n, Edit::RemoveBank(n))?;
-    let (name, entries) = (bank.name.clone(), bank.entries.clone());
-    if n == to {
-        return Ok(());
-    }
-    session.make(&Edit::RemoveBank(n))?;
-    session.make(&Edit::InsertBank(to, name))?;
-    for (place, channel) in entries.into_iter().enumerate() {
-        session.make(&Edit::InsertEntry(to, place, channel))?;
-    }
-    Ok(())
-}
-
-fn move_entry(session: &mut Session, bank: usize, from: usize, to: usize) -> Done {
-    let entries = &at(session, &session.records.banks, bank, Edit::RemoveBank(bank))?.entries;
-    let channel = *at(session, entries, from, Edit::RemoveEntry(bank, from))?;
-    if from == to {
-        return Ok(());
-    }
-    session.make(&Edit::RemoveEntry(bank, from))?;
-    session.make(&Edit::InsertEntry(bank, to, channel))
 }

@@ -1,7 +1,8 @@
 """What the tests of the command line share: a call of the program, a folder with the samples, and a reader and a writer of codeplugs by
 document 01 that are not the program's own.
 
-The program is the file that the environment's CODEPLUG names, by default cli/target/release/codeplug."""
+The program is the file that the environment's CODEPLUG names, by default cli/target/release/codeplug; CODEPLUG_HELP is the folder of its help
+texts."""
 import contextlib
 import os
 import pathlib
@@ -16,6 +17,7 @@ import unittest
 ROOT = pathlib.Path(__file__).resolve().parents[2]
 PROGRAM = os.path.abspath(os.environ.get("CODEPLUG", ROOT / "cli/target/release/codeplug"))
 SAMPLES = ROOT / "samples"
+HELP = pathlib.Path(os.environ.get("CODEPLUG_HELP", ROOT / ("cli/help" if (ROOT / "cli/help").is_dir() else "help")))  # the help texts
 GOOD = ["club", "dealer", "hire", "empty"]
 LIMIT = 1_048_576
 HEADER, CONTACT, CHANNEL = 88, 39, 90  # the records' sizes

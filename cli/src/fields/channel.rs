@@ -49,9 +49,9 @@ fn none_of(info: &Info) -> Set {
     Err(Fault::Value(format!("{} {} channel has none", ["an", "a", "an"][usize::from(info.mode())], MODES[usize::from(info.mode())])))
 }
 
-/// Gets and sets a field that channels of one or two modes have.
+/// Gets and sets a field that channels of one or two modes have. In the other modes it is blank already, where it has a word for that.
 macro_rules! by_mode {
-    ($field:ident: $($mode:ident)|+, $get:expr, $set:expr) => {
+    ($field:ident: $($mode:ident)|+, $get:expr, $set:expr, $blank:expr) => {
         (
             |c: &Channel, contacts: &[Contact]| match &c.info {
                 $(Info::$mode { $field, .. })|+ => $get(*$field, contacts),
@@ -60,14 +60,15 @@ macro_rules! by_mode {
             Setter::Value(|c: &mut Channel, text: &str, contacts: &[Contact]| {
                 let mode = c.info.mode();
                 match &mut c.info {
-                    $(Info::$mode { $field, .. })|+ => {
-                        *$field = $set(text, (mode, *$field, contacts))?;
-                        Ok(())
-                    }
+                    $(Info::$mode { $field, .. })|+ => put($field, $set(text, (mode, *$field, contacts))?),
+                    _ if Some(text) == $blank => Ok(()),
                     other => none_of(other),
                 }
             }),
         )
+    };
+    ($field:ident: $($mode:ident)|+, $get:expr, $set:expr) => {
+        by_mode!($field: $($mode)|+, $get, $set, None::<&str>)
     };
 }
 
@@ -113,7 +114,7 @@ fn set_tone(text: &str, (_, tone, _): Known<Tone>) -> Result<Tone, String> {
     };
     match text.strip_prefix("off:") {
         Some(kept) => index(kept).map(Tone::Disabled),
-        None if text == "off" => Ok(Tone::Disabled(tone.index())),
+        None if text.eq_ignore_ascii_case("off") => Ok(Tone::Disabled(tone.index())),
         None => index(text).map(Tone::Enabled),
     }
 }
@@ -166,7 +167,7 @@ pub static CHANNEL: &[Field<Channel>] = &[
         (|c, _| Cell::Hertz(c.transmit_hz), Setter::Value(|c, text, _| put(&mut c.transmit_hz, values::frequency(text)?))),
     ),
     field(
-        ("bandwidth_khz", "bandwidth", "kHz", InTables),
+        ("bandwidth_khz", "bandwidth", "bandwidth kHz", InTables),
         (
             |c, _| Cell::Decimal(BANDWIDTHS[usize::from(c.bandwidth.min(2))].into()),
             Setter::Value(|c, text, _| put(&mut c.bandwidth, word(text, BANDWIDTHS)?)),
@@ -177,7 +178,7 @@ pub static CHANNEL: &[Field<Channel>] = &[
         (|c, _| Cell::Flag(c.receive_only, NO_YES), Setter::Value(|c, text, _| put(&mut c.receive_only, word(text, &NO_YES)? == 1))),
     ),
     field(
-        ("power_dbm", "power", "dBm", InTables),
+        ("power_dbm", "power", "power dBm", InTables),
         (|c, _| Cell::Decimal(values::dbm(c.power)), Setter::Value(|c, text, _| put(&mut c.power, values::power(text)?))),
     ),
     field(
@@ -192,14 +193,14 @@ pub static CHANNEL: &[Field<Channel>] = &[
         ("latitude", "latitude", "latitude", InTables),
         (
             |c, _| Cell::Decimal(degrees_text(c.latitude, c.latitude_e4)),
-            Setter::Value(|c, text, _| degrees((&mut c.latitude, &mut c.latitude_e4), values::degrees(text, "latitude")?)),
+            Setter::Value(|c, text, _| degrees((&mut c.latitude, &mut c.latitude_e4), values::degrees(text, "-90 to 90")?)),
         ),
     ),
     field(
         ("longitude", "longitude", "longitude", InTables),
         (
             |c, _| Cell::Decimal(degrees_text(c.longitude, c.longitude_e4)),
-            Setter::Value(|c, text, _| degrees((&mut c.longitude, &mut c.longitude_e4), values::degrees(text, "longitude")?)),
+            Setter::Value(|c, text, _| degrees((&mut c.longitude, &mut c.longitude_e4), values::degrees(text, "-128 to 127.9999")?)),
         ),
     ),
     field(
@@ -209,12 +210,18 @@ pub static CHANNEL: &[Field<Channel>] = &[
             Setter::Value(|c, text, _| put(&mut c.altitude_plus_500, values::altitude(text)?)),
         ),
     ),
-    field(("receive_tone", "receive-tone", "receive tone", InTables), by_mode!(receive_tone: Fm, |tone, _| Cell::Tone(tone), set_tone)),
+    field(
+        ("receive_tone", "receive-tone", "receive tone", InTables),
+        by_mode!(receive_tone: Fm, |tone, _| Cell::Tone(tone), set_tone, Some("off")),
+    ),
     field(
         ("receive_tone_index", "", "", Never),
         (|c, _| if let Info::Fm { receive_tone: tone, .. } = c.info { number(tone.index(), &[]) } else { Cell::Absent }, Setter::Never),
     ),
-    field(("transmit_tone", "transmit-tone", "transmit tone", InTables), by_mode!(transmit_tone: Fm, |tone, _| Cell::Tone(tone), set_tone)),
+    field(
+        ("transmit_tone", "transmit-tone", "transmit tone", InTables),
+        by_mode!(transmit_tone: Fm, |tone, _| Cell::Tone(tone), set_tone, Some("off")),
+    ),
     field(
         ("transmit_tone_index", "", "", Never),
         (|c, _| if let Info::Fm { transmit_tone: tone, .. } = c.info { number(tone.index(), &[]) } else { Cell::Absent }, Setter::Never),
@@ -244,7 +251,7 @@ pub static CHANNEL: &[Field<Channel>] = &[
         ("position", "position", "position", Alone),
         by_mode!(position: M17, |on, _| Cell::Flag(on, OFF_ON), |text, _: Known<bool>| word(text, &OFF_ON).map(|on| on == 1)),
     ),
-    field(("contact", "contact", "contact", InTables), by_mode!(contact: Dmr | M17, shown_contact, set_contact)),
+    field(("contact", "contact", "contact", InTables), by_mode!(contact: Dmr | M17, shown_contact, set_contact, Some("none"))),
     field(
         ("contact_name", "", "", Never),
         (
