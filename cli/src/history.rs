@@ -12,7 +12,7 @@
 //! Every state of the codeplug is there by its digest, so a history tells which of its states a file is in, if any: what is newer does not
 //! count. So both files need not be replaced at one moment.
 use crate::sha256::{from_hex, hex, sha256, Digest};
-use codeplug::history_entries;
+use codeplug::{history_entries, Codeplug};
 
 /// The size of a new history, in bytes.
 pub const DEFAULT_SIZE: usize = 16 << 20;
@@ -66,9 +66,11 @@ impl History {
         self.commands.iter().try_fold(0_usize, |sum, command| sum.checked_add(command.entries))
     }
 
-    /// The codeplug's digest before the nth command from the newest.
-    pub fn state_before(&self, n: usize) -> Digest {
-        self.commands.get(n + 1).map_or(self.before, |command| command.after)
+    /// Undoes the nth command from the newest, those before it being undone. False where that does not give the state that is known here.
+    pub fn take_back(&self, codeplug: &mut Codeplug, n: usize) -> bool {
+        let undone = (0..self.commands[n].entries).all(|_| codeplug.undo().is_ok());
+        let before = self.commands.get(n + 1).map_or(self.before, |command| command.after);
+        undone && sha256(codeplug.bytes()) == before
     }
 
     /// The history of a file: commands that are newer than its state are left out. None where the file is in none of its states.
@@ -93,7 +95,7 @@ impl History {
     }
 
     /// After an undo: the commands that are left, and the library's bytes.
-    pub fn take_back(&mut self, bytes: &[u8], count: usize) {
+    pub fn forget(&mut self, bytes: &[u8], count: usize) {
         self.commands.drain(..count);
         self.bytes = bytes.to_vec();
         self.keep(self.entries().unwrap_or(0));

@@ -21,6 +21,7 @@ mod rows;
 mod session;
 mod sha256;
 mod show;
+mod stored;
 mod values;
 mod verbs;
 mod which;

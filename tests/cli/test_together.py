@@ -354,7 +354,7 @@ class Waiting(Case):
 
     def test_a_list_that_nobody_reads_on(self):
         """`history FILE | less` keeps no editor from the file."""
-        for n in range(70):
+        for n in range(250):
             self.author(f"A long name of number {n}", *SMALL)
         reading, writing = os.pipe()
         fcntl.fcntl(writing, fcntl.F_SETPIPE_SZ, 4096)
