@@ -49,7 +49,7 @@ pub fn real_path(name: &OsStr) -> Result<PathBuf, Fail> {
     let path = Path::new(name);
     let dangling = fs::symlink_metadata(path).is_ok_and(|m| m.is_symlink()) && !path.exists();
     if dangling {
-        return Err(Fail::Io(format!("{}: a link that leads nowhere", path.display())));
+        return Err(Fail::Io(format!("{}: there is no such file, only a link that leads nowhere", path.display())));
     }
     fs::canonicalize(path).map_err(|e| io_fail(path, &e))
 }
@@ -123,14 +123,25 @@ impl Prepared {
             match OpenOptions::new().write(true).create_new(true).mode(mode).open(&at) {
                 Err(e) if e.kind() == io::ErrorKind::AlreadyExists => left(&at)?,
                 Err(e) => return Err(io_fail(&at, &e)),
-                Ok(file) if file.try_lock().is_ok() && same_file(&file, &at).unwrap_or(false) => {
-                    return Ok(Prepared { at, path: path.into(), file: Some(file) });
+                Ok(file) => {
+                    let prepared = Prepared { at: at.clone(), path: path.into(), file: Some(file) };
+                    if prepared.lock().map_err(|e| io_fail(&at, &e))? {
+                        return Ok(prepared);
+                    }
                 }
-                // Somebody took it for left.
-                Ok(_) => {}
             }
         }
         Err(Fail::Io(format!("{}: something else is writing it", at.display())))
+    }
+
+    /// Locks it, unless somebody took it for left.
+    fn lock(&self) -> io::Result<bool> {
+        let Some(file) = &self.file else { return Ok(false) };
+        match file.try_lock() {
+            Ok(()) => same_file(file, &self.at),
+            Err(TryLockError::WouldBlock) => Ok(false),
+            Err(TryLockError::Error(e)) => Err(e),
+        }
     }
 
     fn take_after(&mut self, like: &File) -> io::Result<()> {

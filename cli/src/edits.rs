@@ -1,7 +1,7 @@
 //! The twelve edits, and a refused one in words.
 use crate::explain::{label, other_mode};
 use crate::layout;
-use codeplug::{Channel, Codeplug, Contact, ContactInfo, Counts, EditAnswer, Info, Refused};
+use codeplug::{Channel, Codeplug, Contact, ContactInfo, EditAnswer, Info, Refused};
 
 /// There is no such place.
 pub const NO_PLACE: Refused = Refused { number: 33, place: 0 };
@@ -46,7 +46,7 @@ impl Edit {
     /// Refusals 5 to 8 are of the record that is written, which the library's writers refuse at a place in it, before the edit is tried.
     pub fn refusal(&self, refused: Refused, codeplug: &Codeplug) -> (Refused, String) {
         let of_record = (5..=8).contains(&refused.number);
-        if of_record && self.is_past_the_end(codeplug.counts()) {
+        if of_record && self.is_past_the_end(codeplug) {
             return (NO_PLACE, self.no_place(codeplug));
         }
         let words = match refused.number {
@@ -60,15 +60,16 @@ impl Edit {
         (Refused { place: start + refused.place, ..refused }, words)
     }
 
-    /// Whether there is no place for the record: 33, which comes before any refusal of it.
-    fn is_past_the_end(&self, counts: Counts) -> bool {
+    /// Whether there is no place for the record: 33, which comes before any refusal of it. A new one stands at most behind the last.
+    fn is_past_the_end(&self, codeplug: &Codeplug) -> bool {
+        let last = |n: &usize| n.checked_sub(1);
         match self {
-            Edit::InsertContact(n, _) => *n > counts.contacts.into(),
-            Edit::ReplaceContact(n, _) => *n >= counts.contacts.into(),
-            Edit::InsertChannel(n, _) => *n > counts.channels.into(),
-            Edit::ReplaceChannel(n, _) => *n >= counts.channels.into(),
-            Edit::InsertBank(n, _) => *n > counts.banks.into(),
-            Edit::RenameBank(n, _) => *n >= counts.banks.into(),
+            Edit::InsertContact(n, _) => last(n).is_some_and(|last| codeplug.contact(last).is_err()),
+            Edit::ReplaceContact(n, _) => codeplug.contact(*n).is_err(),
+            Edit::InsertChannel(n, _) => last(n).is_some_and(|last| codeplug.channel(last).is_err()),
+            Edit::ReplaceChannel(n, _) => codeplug.channel(*n).is_err(),
+            Edit::InsertBank(n, _) => last(n).is_some_and(|last| codeplug.bank(last).is_err()),
+            Edit::RenameBank(n, _) => codeplug.bank(*n).is_err(),
             _ => false,
         }
     }

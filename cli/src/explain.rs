@@ -41,7 +41,6 @@ pub fn refused_file(file: &[u8], refused: Refused) -> String {
         Part::Header => "header".to_string(),
         Part::Contact(n) => contact_label(file, n),
         Part::Channel(n) => channel_label(file, n),
-        Part::Offset(n) | Part::Bank(n) if refused.number == 10 => label("bank", n, ""),
         Part::Offset(n) => label("bank", n, ""),
         Part::Bank(n) | Part::Entry(n, _) => label("bank", n, &text_at(file, found.start)),
         Part::Behind => return behind(file, refused),
