@@ -34,17 +34,23 @@ impl Aligned {
 
     /// Pairs what is not paired yet and has the same key, in order.
     fn by_key<K: Eq + Hash>(&mut self, a: &[K], b: &[K]) {
-        let mut places: HashMap<&K, Vec<usize>> = HashMap::new();
-        for n in (0..b.len()).rev().filter(|n| self.from[*n].is_none()) {
-            places.entry(&b[n]).or_default().push(n);
-        }
+        let mut places = self.places_left(b);
         for (n, key) in a.iter().enumerate() {
             let found = if self.to[n].is_none() { places.get_mut(key).and_then(Vec::pop) } else { None };
             found.into_iter().for_each(|found| self.pair(n, found));
         }
     }
 
-    /// Pairs runs of the same length that stand between paired neighbours.
+    /// The places of each key in B that are not paired yet, the first one last.
+    fn places_left<'a, K: Eq + Hash>(&self, b: &'a [K]) -> HashMap<&'a K, Vec<usize>> {
+        let mut places: HashMap<&K, Vec<usize>> = HashMap::new();
+        for n in (0..b.len()).rev().filter(|n| self.from[*n].is_none()) {
+            places.entry(&b[n]).or_default().push(n);
+        }
+        places
+    }
+
+    /// Pairs runs of the same length that stand behind paired neighbours.
     fn by_neighbours(&mut self) {
         let mut n = 0;
         while n < self.to.len() {
@@ -61,25 +67,25 @@ impl Aligned {
     /// The longest run of pairs in the same order stays; what is not in it has moved.
     fn mark_moved(&mut self) {
         let pairs: Vec<(usize, usize)> = self.to.iter().enumerate().filter_map(|(a, b)| b.map(|b| (a, b))).collect();
-        let mut ends: Vec<usize> = Vec::new();
-        let mut before: Vec<Option<usize>> = Vec::new();
-        for (i, (_, b)) in pairs.iter().enumerate() {
-            let at = ends.partition_point(|end| pairs[*end].1 < *b);
-            before.push(at.checked_sub(1).map(|at| ends[at]));
-            ends.truncate(ends.len().max(at + 1));
-            if at == ends.len() {
-                ends.push(i);
-            } else {
-                ends[at] = i;
-            }
-        }
+        let theirs: Vec<usize> = pairs.iter().map(|(_, b)| *b).collect();
         pairs.iter().for_each(|(a, _)| self.moved[*a] = true);
-        let mut at = ends.last().copied();
-        while let Some(i) = at {
-            self.moved[pairs[i].0] = false;
-            at = before[i];
+        rising(&theirs).into_iter().for_each(|n| self.moved[pairs[n].0] = false);
+    }
+}
+
+/// The places of a longest rising run, with gaps, of different numbers, the last one first.
+fn rising(numbers: &[usize]) -> Vec<usize> {
+    // For each length the run that ends lowest; for each number the one before it.
+    let (mut ends, mut before): (Vec<usize>, Vec<Option<usize>>) = (Vec::new(), Vec::new());
+    for (n, number) in numbers.iter().enumerate() {
+        let length = ends.partition_point(|end| numbers[*end] < *number);
+        before.push(length.checked_sub(1).map(|shorter| ends[shorter]));
+        match ends.get_mut(length) {
+            Some(end) => *end = n,
+            None => ends.push(n),
         }
     }
+    std::iter::successors(ends.last().copied(), |n| before[*n]).collect()
 }
 
 /// The entries of two lists that stay, as pairs of places: their longest common run with gaps, or where that would take long, what they
@@ -97,15 +103,9 @@ pub fn common(a: &[usize], b: &[usize]) -> Vec<(usize, usize)> {
     pairs
 }
 
+/// Pairs of places of a longest common run with gaps.
 fn longest(a: &[usize], b: &[usize]) -> Vec<(usize, usize)> {
-    let width = b.len() + 1;
-    let mut most = vec![0_u16; (a.len() + 1) * width];
-    for i in (0..a.len()).rev() {
-        for j in (0..b.len()).rev() {
-            let skip = most[(i + 1) * width + j].max(most[i * width + j + 1]);
-            most[i * width + j] = if a[i] == b[j] { most[(i + 1) * width + j + 1] + 1 } else { skip };
-        }
-    }
+    let (width, most) = (b.len() + 1, lengths(a, b));
     let (mut i, mut j, mut pairs) = (0, 0, Vec::new());
     while i < a.len() && j < b.len() {
         if a[i] == b[j] {
@@ -118,4 +118,15 @@ fn longest(a: &[usize], b: &[usize]) -> Vec<(usize, usize)> {
         }
     }
     pairs
+}
+
+/// The length of a longest common run of what follows each place of A and each of B, row by row.
+fn lengths(a: &[usize], b: &[usize]) -> Vec<u16> {
+    let width = b.len() + 1;
+    let mut most = vec![0; (a.len() + 1) * width];
+    for at in (0..a.len() * width).rev().filter(|at| at % width < b.len()) {
+        let (i, j) = (at / width, at % width);
+        most[at] = if a[i] == b[j] { most[at + width + 1] + 1 } else { most[at + width].max(most[at + 1]) };
+    }
+    most
 }

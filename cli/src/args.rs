@@ -43,7 +43,7 @@ impl Args {
     }
 
     /// The next argument as a text, which may be empty.
-    pub fn text(&mut self, name: &str) -> Result<String, Fail> {
+    pub fn next_text_or_empty(&mut self, name: &str) -> Result<String, Fail> {
         let word = self.arguments.next().map_or_else(|| usage(format!("{name} is missing")), Ok)?;
         text_of(&word).map(str::to_string)
     }

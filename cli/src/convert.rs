@@ -37,9 +37,11 @@ fn hertz_of(index: &str) -> Result<String, Fail> {
 }
 
 fn index_of(hertz: &str) -> Result<String, Fail> {
-    let Some(tenths) = values::fixed(hertz, 12) else { return usage(format!("'{hertz}' is no number")) };
-    let unit = 100_000_000_000;
-    let tenths = (tenths % unit == 0).then(|| u16::try_from(tenths / unit).ok()).flatten();
+    let number = values::without_unit(hertz, "Hz");
+    if !number.contains(|c: char| c.is_ascii_digit()) || number.contains(|c: char| !c.is_ascii_digit() && c != '.') {
+        return usage(format!("'{hertz}' is no number"));
+    }
+    let tenths = values::fixed(number, 1).and_then(|tenths| u16::try_from(tenths).ok());
     let index = tenths.and_then(tone_index);
     index.map(|index| index.to_string()).ok_or_else(|| none(&format!("{hertz} is no tone of the table")))
 }
@@ -52,7 +54,7 @@ fn none(text: &str) -> Fail {
 
 pub fn callsign(mut args: Args, out: &mut Out) -> Done {
     let hex = args.flag("hex");
-    let text = args.text("TEXT")?;
+    let text = args.next_text_or_empty("TEXT")?;
     args.end("callsign")?;
     let text = &text[..];
     let number = encode_callsign(text).map_err(|refused| {

@@ -4,7 +4,7 @@ use crate::args::Args;
 use crate::cell::{json_string, Cell};
 use crate::explain::label;
 use crate::fail::{usage, Done};
-use crate::fields::{Field, CHANNEL, CONTACT, HEADER};
+use crate::fields::{shown_contact, Field, CHANNEL, CONTACT, HEADER};
 use crate::out::{Out, Paint};
 use crate::records::Records;
 use crate::show::open;
@@ -44,17 +44,17 @@ pub fn changes(a: &Records, b: &Records) -> Vec<String> {
     lines
 }
 
-/// The records of one sort, of one codeplug: their names, and all that one holds.
+/// The records of one part, of one codeplug: their names, and all that one holds.
 struct Side<'a> {
     names: Vec<&'a str>,
     whole: Box<dyn Fn(usize) -> String + 'a>,
 }
 
-/// A line for each record of one sort that was removed, moved, changed or added.
-fn lines_of(kind: &str, aligned: &Aligned, a: Side, b: Side, changed: impl Fn(usize, usize) -> Vec<String>) -> Vec<String> {
+/// A line for each record of one part that was removed, moved, changed or added.
+fn lines_of(part: &str, aligned: &Aligned, a: Side, b: Side, changed: impl Fn(usize, usize) -> Vec<String>) -> Vec<String> {
     let mut lines = Vec::new();
     for (i, to) in aligned.to.iter().enumerate() {
-        let whose = label(kind, i, a.names[i]);
+        let whose = label(part, i, a.names[i]);
         let Some(j) = to else {
             lines.push(format!("- {whose}: {}", (a.whole)(i)));
             continue;
@@ -65,7 +65,7 @@ fn lines_of(kind: &str, aligned: &Aligned, a: Side, b: Side, changed: impl Fn(us
         lines.extend(changed(i, *j));
     }
     let added = aligned.from.iter().enumerate().filter(|(_, from)| from.is_none());
-    lines.extend(added.map(|(j, _)| format!("+ {}: {}", label(kind, j, b.names[j]), (b.whole)(j))));
+    lines.extend(added.map(|(j, _)| format!("+ {}: {}", label(part, j, b.names[j]), (b.whole)(j))));
     lines
 }
 
@@ -144,12 +144,24 @@ fn fields_changed<R>(fields: &[Field<R>], a: In<R>, b: In<R>, whose: &str) -> Ve
 /// A channel that calls the same contact has not changed, whatever the contact's number or name.
 fn channel_changed(a: &Records, b: &Records, (i, j): (usize, usize), contacts: &Aligned) -> Vec<String> {
     let ((old, was), (new, is)) = (without_contact(&a.channels[i]), without_contact(&b.channels[j]));
-    let followed = was.map(|was| contacts.to[usize::from(was)]) == is.map(|is| Some(usize::from(is)));
     let whose = label("channel", i, &a.channels[i].name);
-    if followed {
-        return fields_changed(CHANNEL, (&old, &[]), (&new, &[]), &whose);
+    let mut lines = fields_changed(CHANNEL, (&old, &[]), (&new, &[]), &whose);
+    let now = was.map(|was| contacts.to[usize::from(was)]);
+    if now != is.map(|is| Some(usize::from(is))) {
+        lines.push(format!("~ {whose}: contact: {}", calls_another(a, b, (was, now.flatten()), is)));
     }
-    fields_changed(CHANNEL, (&a.channels[i], &a.contacts), (&b.channels[j], &b.contacts), &whose)
+    lines
+}
+
+/// A contact that is called, and another that is called in its place: by name or, where both have the same, by place too. The first one's
+/// place is A's, so it is said where B has it.
+fn calls_another(a: &Records, b: &Records, (was, now): (Option<u16>, Option<usize>), is: Option<u16>) -> String {
+    let (old, new) = (shown_contact(was, &a.contacts), shown_contact(is, &b.contacts));
+    if old.text() != new.text() {
+        return format!("{} -> {}", old.text(), new.text());
+    }
+    let moved = now.map_or("gone".into(), |now| format!("now {now}"));
+    format!("{}, {moved} -> {}", old.whole_text(), new.whole_text())
 }
 
 fn bank_lines(a: &Records, b: &Records, channels: &Aligned) -> Vec<String> {

@@ -44,14 +44,14 @@ pub fn unchanged(path: &Path, before: &Metadata) -> bool {
     fs::metadata(path).is_ok_and(|found| now(found) == then)
 }
 
-/// Where a path leads, links followed.
+/// A file's own path: where it leads, if it is a link.
 pub fn real_path(name: &OsStr) -> Result<PathBuf, Fail> {
     let path = Path::new(name);
-    let dangling = fs::symlink_metadata(path).is_ok_and(|m| m.is_symlink()) && !path.exists();
-    if dangling {
-        return Err(Fail::Io(format!("{}: there is no such file, only a link that leads nowhere", path.display())));
+    match fs::symlink_metadata(path).map_err(|e| io_fail(path, &e))?.is_symlink() {
+        true if !path.exists() => Err(Fail::Io(format!("{}: there is no such file, only a link that leads nowhere", path.display()))),
+        true => fs::canonicalize(path).map_err(|e| io_fail(path, &e)),
+        false => Ok(path.into()),
     }
-    fs::canonicalize(path).map_err(|e| io_fail(path, &e))
 }
 
 fn same_file(file: &File, path: &Path) -> io::Result<bool> {
@@ -93,7 +93,8 @@ pub fn open_locked(options: &OpenOptions, path: &Path, lock: Lock, wait: Duratio
 pub struct Prepared {
     at: PathBuf,
     path: PathBuf,
-    file: Option<File>,
+    file: File,
+    renamed: bool,
 }
 
 impl Prepared {
@@ -102,8 +103,9 @@ impl Prepared {
         // Left by a program that was interrupted. It may be another name of FILE, so it is not written to.
         let left = |at: &Path| fs::remove_file(at).map_err(|e| io_fail(at, &e));
         let mut prepared = Prepared::open(path, 0o600, left)?;
-        let kept = prepared.take_after(like);
-        kept.map_err(|e| Fail::Io(format!("{}: its owner and permissions cannot be kept: {}", path.display(), io_words(&e))))?;
+        prepared
+            .take_after(like)
+            .map_err(|e| Fail::Io(format!("{}: its owner and permissions cannot be kept: {}", path.display(), io_words(&e))))?;
         prepared.fill(bytes).map_err(|e| io_fail(path, &e))?;
         Ok(prepared)
     }
@@ -119,13 +121,14 @@ impl Prepared {
     /// there waits.
     fn open(path: &Path, mode: u32, left: impl Fn(&Path) -> Done) -> Result<Prepared, Fail> {
         let at = beside(path, NEW);
+        let failed = |e: io::Error| Fail::Io(format!("{}: no new file can be made beside it: {}", path.display(), io_words(&e)));
         for _ in 0..100 {
             match OpenOptions::new().write(true).create_new(true).mode(mode).open(&at) {
                 Err(e) if e.kind() == io::ErrorKind::AlreadyExists => left(&at)?,
-                Err(e) => return Err(io_fail(&at, &e)),
+                Err(e) => return Err(failed(e)),
                 Ok(file) => {
-                    let prepared = Prepared { at: at.clone(), path: path.into(), file: Some(file) };
-                    if prepared.lock().map_err(|e| io_fail(&at, &e))? {
+                    let prepared = Prepared { at: at.clone(), path: path.into(), file, renamed: false };
+                    if prepared.lock().map_err(failed)? {
                         return Ok(prepared);
                     }
                 }
@@ -136,35 +139,32 @@ impl Prepared {
 
     /// Locks it, unless somebody took it for left.
     fn lock(&self) -> io::Result<bool> {
-        let Some(file) = &self.file else { return Ok(false) };
-        match file.try_lock() {
-            Ok(()) => same_file(file, &self.at),
+        match self.file.try_lock() {
+            Ok(()) => same_file(&self.file, &self.at),
             Err(TryLockError::WouldBlock) => Ok(false),
             Err(TryLockError::Error(e)) => Err(e),
         }
     }
 
     fn take_after(&mut self, like: &File) -> io::Result<()> {
-        let Some(file) = &self.file else { return Ok(()) };
-        let (own, other) = (file.metadata()?, like.metadata()?);
+        let (own, other) = (self.file.metadata()?, like.metadata()?);
         if (own.uid(), own.gid()) != (other.uid(), other.gid()) {
-            fchown(file, Some(other.uid()), Some(other.gid()))?;
+            fchown(&self.file, Some(other.uid()), Some(other.gid()))?;
         }
-        attributes::copy(like, file)?;
-        file.set_permissions(fs::Permissions::from_mode(other.mode() & 0o7777))
+        attributes::copy(like, &self.file)?;
+        self.file.set_permissions(fs::Permissions::from_mode(other.mode() & 0o7777))
     }
 
     fn fill(&mut self, bytes: &[u8]) -> io::Result<()> {
-        let Some(file) = &mut self.file else { return Ok(()) };
-        file.set_len(0)?;
-        file.write_all(bytes)?;
-        file.sync_all()
+        self.file.write_all(bytes)?;
+        self.file.sync_all()
     }
 
-    /// Puts it in FILE's place. What is answered keeps it locked.
-    pub fn rename(mut self) -> io::Result<Option<File>> {
+    /// Puts it in FILE's place. It stays locked as long as it is held.
+    pub fn rename(mut self) -> io::Result<Prepared> {
         fs::rename(&self.at, &self.path)?;
-        Ok(self.file.take())
+        self.renamed = true;
+        Ok(self)
     }
 
     /// Makes it FILE, where there is none.
@@ -194,7 +194,7 @@ fn remove_unlocked(at: &Path) -> Done {
 
 impl Drop for Prepared {
     fn drop(&mut self) {
-        if self.file.is_some() {
+        if !self.renamed {
             let _ = fs::remove_file(&self.at);
         }
     }

@@ -6,8 +6,6 @@ use codeplug::{Channel, Codeplug, Contact, ContactInfo, EditAnswer, Info, Refuse
 /// There is no such place.
 pub const NO_PLACE: Refused = Refused { number: 33, place: 0 };
 
-pub const HISTORY_TOO_SMALL: &str = "what undo needs of this command does not fit the history (--history-size)";
-
 pub enum Edit {
     InsertContact(usize, Contact),
     RemoveContact(usize),
@@ -125,7 +123,7 @@ impl Edit {
         let (Edit::InsertChannel(_, channel) | Edit::ReplaceChannel(_, channel)) = self else {
             let first = layout::contact_start(count.into());
             let caller = (refused.place - first.min(refused.place)) / codeplug::CHANNEL_SIZE;
-            return format!("{written}, mode: {} calls it, and has another", channel_of(codeplug, caller));
+            return format!("{written}, mode: {} calls it, and goes on in its own", channel_of(codeplug, caller));
         };
         match channel.info.contact().unwrap_or(0) {
             contact if contact >= count => format!("{written}, contact: there is no contact {contact}: the codeplug has {count}"),
@@ -135,8 +133,8 @@ impl Edit {
 
     pub fn no_place(&self, codeplug: &Codeplug) -> String {
         let counts = codeplug.counts();
-        let no = |kind: &str, n: &usize, count: u16| format!("there is no {kind} {n}: the codeplug has {count}");
-        let past = |kind: &str, n: &usize, count: u16| format!("place {n} is past the end: a new {kind} has a place from 0 to {count}");
+        let no = |part: &str, n: &usize, count: u16| format!("there is no {part} {n}: the codeplug has {count}");
+        let past = |part: &str, n: &usize, count: u16| format!("place {n} is past the end: a new {part} has a place from 0 to {count}");
         match self {
             Edit::InsertContact(place, _) => past("contact", place, counts.contacts),
             Edit::RemoveContact(n) | Edit::ReplaceContact(n, _) => no("contact", n, counts.contacts),
@@ -183,7 +181,7 @@ impl Edit {
                 format!("there is no channel {channel}: the codeplug has {}", codeplug.counts().channels)
             }
             (34, Edit::InsertEntry(bank, ..)) => format!("{} has 65535 entries already", bank_of(codeplug, *bank)),
-            (37, _) => HISTORY_TOO_SMALL.into(),
+            (37, _) => "what undo needs of it does not fit the history (--history-size)".into(),
             _ => refused.text().into(),
         }
     }

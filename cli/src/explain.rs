@@ -3,11 +3,11 @@ use crate::layout::{self, Found, Part};
 use codeplug::{Refused, FILE_MAX};
 
 /// A record by its place and, where it has one, its name.
-pub fn label(kind: &str, n: usize, name: &str) -> String {
+pub fn label(part: &str, n: usize, name: &str) -> String {
     if name.is_empty() {
-        format!("{kind} {n}")
+        format!("{part} {n}")
     } else {
-        format!("{kind} {n} ({name})")
+        format!("{part} {n} ({name})")
     }
 }
 
@@ -75,7 +75,7 @@ fn fault(file: &[u8], refused: Refused, found: &Found) -> String {
             format!("{number} is neither a callsign nor broadcast")
         }
         9 => bad_contact(file, refused.place, found.start),
-        10 => bad_offset(file, refused.place, &found.part),
+        10 => bad_offset(file, refused.place),
         11 => format!("there is no channel {}: the codeplug has {}", layout::two(file, refused.place), layout::counts(file).channels),
         _ => refused.text().into(),
     }
@@ -123,9 +123,9 @@ pub fn other_mode(contact: &str, channel_mode: u8) -> String {
     format!("{contact} is {theirs}, and the channel {own}")
 }
 
-fn bad_offset(file: &[u8], place: usize, part: &Part) -> String {
-    let n = if let Part::Offset(n) = part { *n } else { 0 };
+fn bad_offset(file: &[u8], place: usize) -> String {
+    let counts = layout::counts(file);
+    let bank = (place - layout::offsets_start(&counts)) / layout::OFFSET_SIZE;
     let offset = layout::two(file, place) + 65_536 * layout::two(file, place + 2);
-    let start = layout::bank_start(file, n) - layout::banks_start(&layout::counts(file));
-    format!("{offset}, and the bank stands at {start}")
+    format!("{offset}, and the bank stands at {}", layout::bank_start(file, bank) - layout::banks_start(&counts))
 }

@@ -1,76 +1,81 @@
-//! What FILE.history holds: the library's history, and which commands its entries belong to.
+//! What FILE.history holds: the library's history in batches, and which command made them.
 //!
 //! Lines of text, an empty line, then the library's bytes:
 //!
 //! ```text
 //! codeplug history 1
-//! size BYTES                 how many of the library's bytes it may hold
-//! before SHA256              of the codeplug before the oldest command
-//! command ENTRIES SHA256     newest first: how many entries it made, and the codeplug after it
+//! size BYTES                          how many of the library's bytes it may hold
+//! before SHA256                       of the codeplug before the oldest command
+//! command SHA256 ENTRIES:BYTES ..     newest first: the codeplug after it, and its batches of edits, newest first
 //! ```
 //!
 //! Every state of the codeplug is there by its digest, so a history tells which of its states a file is in, if any: what is newer does not
 //! count. So both files need not be replaced at one moment.
 use crate::sha256::{from_hex, hex, sha256, Digest};
-use codeplug::{history_entries, Codeplug};
+use codeplug::{history_entries, Codeplug, FILE_MAX};
 
 /// The size of a new history, in bytes.
 pub const DEFAULT_SIZE: usize = 16 << 20;
 /// The largest: it is held in memory.
 pub const LARGEST_SIZE: usize = 64 << 20;
+/// How many commands can be undone at the most.
+const MOST_COMMANDS: usize = 10_000;
 
 const TITLE: &str = "codeplug history 1";
 
-#[derive(Clone, Debug, PartialEq)]
-pub struct Command {
+/// Entries of the library's history, newest first. A command of many edits has several batches: the library reads the whole history that it
+/// is given at each call.
+pub struct Batch {
     pub entries: usize,
-    pub after: Digest,
+    pub bytes: Vec<u8>,
 }
 
-#[derive(Clone, Debug, PartialEq)]
+pub struct Command {
+    pub after: Digest,
+    /// Newest first.
+    pub batches: Vec<Batch>,
+}
+
 pub struct History {
     pub size: usize,
     pub before: Digest,
     /// Newest first.
     pub commands: Vec<Command>,
-    /// The library's, of just these commands.
-    pub bytes: Vec<u8>,
+}
+
+impl Command {
+    fn length(&self) -> usize {
+        self.batches.iter().map(|batch| batch.bytes.len()).sum()
+    }
 }
 
 impl History {
     pub fn new(file: &[u8]) -> History {
-        History { size: DEFAULT_SIZE, before: sha256(file), commands: Vec::new(), bytes: Vec::new() }
+        History { size: DEFAULT_SIZE, before: sha256(file), commands: Vec::new() }
     }
 
     /// A stored history; none where it is not one.
     pub fn parse(stored: &[u8]) -> Option<History> {
         let end = stored.windows(2).position(|two| two == b"\n\n")?;
-        let mut lines = std::str::from_utf8(&stored[..end]).ok()?.split('\n');
+        let (head, mut bytes) = (std::str::from_utf8(&stored[..end]).ok()?, &stored[end + 2..]);
+        let mut lines = head.split('\n');
         (lines.next()? == TITLE).then_some(())?;
         let size = lines.next()?.strip_prefix("size ")?.parse().ok().filter(|size| *size <= LARGEST_SIZE)?;
         let before = from_hex(lines.next()?.strip_prefix("before ")?)?;
-        let commands = lines.map(command).collect::<Option<Vec<_>>>()?;
-        let history = History { size, before, commands, bytes: stored[end + 2..].to_vec() };
-        (history_entries(&history.bytes).ok()? == history.entries()?).then_some(history)
+        let commands: Vec<Command> = lines.map(|line| command(line, &mut bytes)).collect::<Option<_>>()?;
+        (bytes.is_empty() && commands.len() <= MOST_COMMANDS).then_some(History { size, before, commands })
     }
 
     pub fn stored(&self) -> Vec<u8> {
-        let mut text = format!("{TITLE}\nsize {}\nbefore {}\n", self.size, hex(&self.before));
-        for command in &self.commands {
-            text += &format!("command {} {}\n", command.entries, hex(&command.after));
-        }
-        [text.as_bytes(), b"\n", &self.bytes].concat()
-    }
-
-    fn entries(&self) -> Option<usize> {
-        self.commands.iter().try_fold(0_usize, |sum, command| sum.checked_add(command.entries))
-    }
-
-    /// Undoes the nth command from the newest, those before it being undone. False where that does not give the state that is known here.
-    pub fn take_back(&self, codeplug: &mut Codeplug, n: usize) -> bool {
-        let undone = (0..self.commands[n].entries).all(|_| codeplug.undo().is_ok());
-        let before = self.commands.get(n + 1).map_or(self.before, |command| command.after);
-        undone && sha256(codeplug.bytes()) == before
+        let batch = |batch: &Batch| format!(" {}:{}", batch.entries, batch.bytes.len());
+        let line = |command: &Command| {
+            let batches: String = command.batches.iter().map(batch).collect();
+            format!("command {}{batches}\n", hex(&command.after))
+        };
+        let lines: String = self.commands.iter().map(line).collect();
+        let mut stored = format!("{TITLE}\nsize {}\nbefore {}\n{lines}\n", self.size, hex(&self.before)).into_bytes();
+        self.commands.iter().flat_map(|command| &command.batches).for_each(|batch| stored.extend(&batch.bytes));
+        stored
     }
 
     /// The history of a file: commands that are newer than its state are left out. None where the file is in none of its states.
@@ -81,71 +86,61 @@ impl History {
             None if self.before == digest => self.commands.len(),
             None => return None,
         };
-        let entries = self.commands.drain(..newer).map(|command| command.entries).sum();
-        self.bytes.drain(..length_of(&self.bytes, entries));
+        self.commands.drain(..newer);
         Some(self)
     }
 
-    /// After a command: the library's bytes, of which it may have dropped the oldest entries, and what the command made. Where that does
-    /// not fit, no command is left.
-    pub fn add(&mut self, bytes: &[u8], entries: usize, file: &[u8]) {
-        self.commands.insert(0, Command { entries, after: sha256(file) });
-        self.bytes = bytes.to_vec();
-        self.keep(history_entries(bytes).unwrap_or(0));
+    /// Undoes the nth command from the newest, in the file as it was after it. None where that does not give the state that is known here.
+    pub fn take_back(&self, mut file: Vec<u8>, n: usize) -> Option<Vec<u8>> {
+        for batch in &self.commands[n].batches {
+            let mut codeplug = Codeplug::restore(&file, &batch.bytes, FILE_MAX, 0).ok()?;
+            (0..batch.entries).all(|_| codeplug.undo().is_ok()).then_some(())?;
+            file = codeplug.bytes().to_vec();
+        }
+        let before = self.commands.get(n + 1).map_or(self.before, |command| command.after);
+        (sha256(&file) == before).then_some(file)
     }
 
-    /// After an undo: the commands that are left, and the library's bytes.
-    pub fn forget(&mut self, bytes: &[u8], count: usize) {
+    /// After a command. Where it does not fit, no command is left.
+    pub fn add(&mut self, command: Command) {
+        self.commands.insert(0, command);
+        self.keep();
+    }
+
+    /// After the newest commands were undone.
+    pub fn forget(&mut self, count: usize) {
         self.commands.drain(..count);
-        self.bytes = bytes.to_vec();
-        self.keep(self.entries().unwrap_or(0));
+        self.keep();
     }
 
-    /// Keeps the newest commands whose entries are all among the newest so many, and fit the size.
-    fn keep(&mut self, entries: usize) {
-        let mut kept = 0;
+    /// Keeps the newest commands that together fit the size.
+    fn keep(&mut self) {
+        let mut length = 0;
         let fits = |command: &&Command| {
-            kept += command.entries;
-            kept <= entries && length_of(&self.bytes, kept) <= self.size
+            length += command.length();
+            length <= self.size
         };
-        let whole = self.commands.iter().take_while(fits).count();
-        if let Some(dropped) = self.commands.get(whole) {
+        let kept = self.commands.iter().take(MOST_COMMANDS).take_while(fits).count();
+        if let Some(dropped) = self.commands.get(kept) {
             self.before = dropped.after;
         }
-        self.commands.truncate(whole);
-        let kept = self.entries().unwrap_or(0);
-        self.bytes.truncate(length_of(&self.bytes, kept));
+        self.commands.truncate(kept);
     }
 }
 
-fn command(line: &str) -> Option<Command> {
-    let (entries, after) = line.strip_prefix("command ")?.split_once(' ')?;
-    Some(Command { entries: entries.parse().ok()?, after: from_hex(after)? })
+/// A command by its line, and its batches' bytes from the front of those that are left.
+fn command(line: &str, bytes: &mut &[u8]) -> Option<Command> {
+    let mut words = line.strip_prefix("command ")?.split(' ');
+    let after = from_hex(words.next()?)?;
+    let batches: Vec<Batch> = words.map(|word| batch(word, bytes)).collect::<Option<_>>()?;
+    (!batches.is_empty()).then_some(Command { after, batches })
 }
 
-/// How many bytes the newest entries of a history take, by document 01's form of an entry: three numbers in groups of seven bits, the last
-/// of which says how many bytes follow. The library has validated it.
-fn length_of(history: &[u8], entries: usize) -> usize {
-    let mut at = 0;
-    for _ in 0..entries {
-        let mut number = 0;
-        for _ in 0..3 {
-            number = next_number(history, &mut at);
-        }
-        at += number;
-    }
-    at.min(history.len())
-}
-
-fn next_number(history: &[u8], at: &mut usize) -> usize {
-    let (mut number, mut shift) = (0, 0);
-    while let Some(byte) = history.get(*at) {
-        *at += 1;
-        number |= usize::from(byte & 0x7f) << shift;
-        shift += 7;
-        if byte & 0x80 == 0 {
-            break;
-        }
-    }
-    number
+/// A batch that the library takes for as many entries as are said.
+fn batch(word: &str, bytes: &mut &[u8]) -> Option<Batch> {
+    let (entries, length) = word.split_once(':')?;
+    let (entries, length): (usize, usize) = (entries.parse().ok()?, length.parse().ok()?);
+    let (own, rest) = bytes.split_at_checked(length)?;
+    *bytes = rest;
+    (entries > 0 && history_entries(own) == Ok(entries)).then(|| Batch { entries, bytes: own.to_vec() })
 }

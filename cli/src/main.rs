@@ -51,20 +51,20 @@ fn main() -> ExitCode {
 fn run(verb: &str, words: Vec<OsString>, out: &mut Out) -> Done {
     match verb {
         "" => return usage("no verb is given"),
-        "--help" | "-h" => return text(help::PROGRAM, out),
-        "--version" | "-V" => return version(out),
+        "--help" => return text(help::PROGRAM, out),
+        "--version" => return version(out),
         _ => {}
     }
     let Some(help) = help::of(verb) else { return usage(format!("there is no verb '{verb}'")) };
-    let before_end = || words.iter().take_while(|word| *word != "--");
-    if before_end().any(|word| word == "--help" || word == "-h") {
+    let (values, flags) = options(verb);
+    let mut args = Args::parse(words, &values, &flags)?;
+    if args.flag("help") {
         return text(&help, out);
     }
-    if before_end().any(|word| word == "--version") {
+    if args.flag("version") {
         return version(out);
     }
-    let (values, flags) = options(verb);
-    make(verb, Args::parse(words, &values, &flags)?, out)
+    make(verb, args, out)
 }
 
 fn make(verb: &str, args: Args, out: &mut Out) -> Done {
@@ -111,6 +111,7 @@ fn options(verb: &str) -> (Vec<&'static str>, Vec<&'static str>) {
         values.extend(session::VALUES);
         flags.extend(session::FLAGS);
     }
+    flags.extend(["help", "version"]);
     (values, flags)
 }
 

@@ -29,8 +29,8 @@ impl Records {
     }
 
     /// The names of all contacts, channels or banks.
-    pub fn names(&self, kind: &str) -> Vec<&str> {
-        match kind {
+    pub fn names(&self, part: &str) -> Vec<&str> {
+        match part {
             "contact" => self.contacts.iter().map(|contact| &contact.name[..]).collect(),
             "channel" => self.channels.iter().map(|channel| &channel.name[..]).collect(),
             _ => self.banks.iter().map(|bank| &bank.name[..]).collect(),

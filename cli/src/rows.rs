@@ -42,8 +42,8 @@ fn rows<R>(fields: &'static [Field<R>], records: &[R], contacts: &[Contact]) -> 
 }
 
 /// The header, or all contacts, channels or banks.
-pub fn rows_of(records: &Records, sort: &str) -> Rows {
-    match sort {
+pub fn rows_of(records: &Records, part: &str) -> Rows {
+    match part {
         "header" => {
             let mut header = rows(HEADER, std::slice::from_ref(&records.header), &[]);
             // There is one, which has no place.
@@ -125,7 +125,7 @@ impl Rows {
     /// A table of the fields that some record has.
     fn table(&self, out: &mut Out) -> Done {
         let texts: Vec<Vec<String>> = self.cells.iter().map(|row| row.iter().map(Cell::text).collect()).collect();
-        let used = |n: usize| texts.is_empty() || texts.iter().any(|row| row[n] != "-");
+        let used = |n: usize| texts.is_empty() || self.cells.iter().any(|row| !matches!(row[n], Cell::Absent));
         let shown = |n: &usize| self.columns[*n].shown == Shown::InTables && used(*n);
         let columns: Vec<usize> = (0..self.columns.len()).filter(shown).collect();
         let widest = |n: usize| texts.iter().map(|row| row[n].chars().count()).max().unwrap_or(0);

@@ -2,12 +2,13 @@
 use crate::args::Args;
 use crate::diff::{changes, print};
 use crate::disk::{read_codeplug, Lock};
-use crate::edits::{Edit, HISTORY_TOO_SMALL};
+use crate::edits::Edit;
 use crate::fail::{usage, Done, Fail};
-use crate::history::{History, LARGEST_SIZE};
+use crate::history::{Batch, Command, History, LARGEST_SIZE};
 use crate::out::{say, Out};
 use crate::records::Records;
-use crate::show::refused_open;
+use crate::sha256::sha256;
+use crate::show::{refused_open, shown};
 use crate::stored::{Order, Stored};
 use codeplug::{Codeplug, Refused, FILE_MAX};
 use std::ffi::OsStr;
@@ -35,10 +36,18 @@ impl Options {
     }
 }
 
+/// Refusals of a command, as the library has them of an edit and an undo.
+const TOO_SMALL: Refused = Refused { number: 37, place: 0 };
+const NO_UNDO: Refused = Refused { number: 38, place: 0 };
+const HISTORY_TOO_SMALL: &str = "what undo needs of this command does not fit the history (--history-size)";
+
 /// How long to wait for another codeplug.
 pub fn wait_of(args: &mut Args) -> Result<Duration, Fail> {
     Ok(Duration::from_secs(args.number("wait", 86_400)?.unwrap_or(10) as u64))
 }
+
+/// How many edits of a command the library has in its history at once.
+const BATCH: usize = 256;
 
 pub struct Session {
     /// The file as the user named it.
@@ -47,11 +56,13 @@ pub struct Session {
     stored: Option<Stored>,
     options: Options,
     history: History,
+    /// With a history of the command's last edits alone.
     codeplug: Codeplug,
-    /// How many bytes the codeplug's history can hold.
+    /// How many bytes that history can hold, and how many edits it should.
     width: usize,
-    /// How many edits were made.
-    made: usize,
+    last: usize,
+    /// The command's earlier edits, newest first.
+    batches: Vec<Batch>,
     /// As it was opened.
     file: Vec<u8>,
     pub records: Records,
@@ -70,102 +81,115 @@ impl Session {
         };
         let refused = |refused: Refused| refused_open(name, &file, refused);
         let records = Records::of(&file).map_err(refused)?;
+        let codeplug = Codeplug::open(&file, FILE_MAX, 0).map_err(refused)?;
         history.size = options.history_size.unwrap_or(history.size);
-        let codeplug = Codeplug::restore(&file, &history.bytes, FILE_MAX, 0).map_err(refused)?;
-        let name = if name == "-" { "standard input".into() } else { name.to_string_lossy().into_owned() };
-        Ok(Session { name, stored, options, history, codeplug, width: 0, made: 0, file, records })
+        let (name, batches) = (shown(name), Vec::new());
+        Ok(Session { name, stored, options, history, codeplug, width: 0, last: 0, batches, file, records })
     }
 
     pub fn codeplug(&self) -> &Codeplug {
         &self.codeplug
     }
 
-    pub fn refused(&self, number: u8, words: impl Into<String>) -> Fail {
-        Fail::Refused { about: self.name.clone(), refused: Refused { number, place: 0 }, words: words.into() }
+    /// A refusal of the command.
+    pub fn refused(&self, refused: Refused, words: impl Into<String>) -> Fail {
+        Fail::Refused { about: self.name.clone(), refused, words: words.into() }
     }
 
     /// Makes an edit. Where it is refused the command ends, and nothing is saved.
     pub fn make(&mut self, edit: &Edit) -> Done {
-        self.widen()?;
+        self.make_room()?;
         edit.make(&mut self.codeplug).map_err(|refused| {
             let (refused, words) = edit.refusal(refused, &self.codeplug);
-            Fail::Refused { about: self.name.clone(), refused, words }
+            self.refused(refused, words)
         })?;
-        self.made += 1;
+        self.last += 1;
+        let earlier: usize = self.batches.iter().map(|batch| batch.bytes.len()).sum();
+        let fits = self.codeplug.undoable() == self.last && earlier + self.codeplug.history().len() <= self.history.size;
+        if self.stored.is_some() && !fits {
+            return Err(self.refused(TOO_SMALL, HISTORY_TOO_SMALL));
+        }
         Ok(())
     }
 
-    /// Gives the history the bytes that an edit may need, so that small commands need little memory: an entry has at most the codeplug's
-    /// bytes and 9 more. Never more than its size.
-    fn widen(&mut self) -> Done {
+    /// Lays the last edits by where the library has many, or no room for one more: an entry has at most the codeplug's bytes and 9 more. There
+    /// is never more room than the history's size, so that the library refuses what is larger.
+    fn make_room(&mut self) -> Done {
         let needed = self.codeplug.history().len() + self.codeplug.bytes().len() + 9;
-        if needed <= self.width || self.width >= self.history.size {
+        if self.last < BATCH && (needed <= self.width || self.width >= self.history.size) {
             return Ok(());
         }
-        self.width = (2 * needed).min(self.history.size);
-        let wider = Codeplug::restore(self.codeplug.bytes(), self.codeplug.history(), FILE_MAX, self.width);
-        self.codeplug = wider.map_err(|r| self.refused(r.number, r.text()))?;
+        self.lay_by();
+        self.width = (self.codeplug.bytes().len() + 9 + 65_536).min(self.history.size);
+        let emptied = Codeplug::open(self.codeplug.bytes(), FILE_MAX, self.width);
+        self.codeplug = emptied.map_err(|refused| self.refused(refused, refused.text()))?;
         Ok(())
+    }
+
+    fn lay_by(&mut self) {
+        let bytes = self.codeplug.history().to_vec();
+        if self.last > 0 && self.stored.is_some() {
+            self.batches.insert(0, Batch { entries: self.last, bytes });
+        }
+        self.last = 0;
     }
 
     /// Saves what was made.
     pub fn save(mut self, out: &mut Out) -> Done {
         let changed = self.codeplug.bytes() != self.file;
+        self.lay_by();
         if self.stored.is_some() && changed {
-            self.history.add(self.codeplug.history(), self.made, self.codeplug.bytes());
-            if self.history.commands.is_empty() {
-                return Err(self.refused(37, HISTORY_TOO_SMALL));
-            }
+            self.history.add(Command { after: sha256(self.codeplug.bytes()), batches: std::mem::take(&mut self.batches) });
         }
+        let file = self.codeplug.bytes();
         if self.options.dry_run {
-            return print(&self.changes()?, "", out);
+            return print(&self.changes(file)?, "", out);
         }
         match &self.stored {
-            None => out.bytes(self.codeplug.bytes())?,
-            Some(stored) if changed => stored.replace(self.codeplug.bytes(), &self.history, Order::HistoryFirst)?,
+            None => out.bytes(file)?,
+            Some(stored) if changed => stored.replace(file, &self.history, Order::HistoryFirst)?,
             Some(_) => {}
         }
-        self.tell()
+        self.tell(file)
     }
 
     /// Takes the last commands back, and saves.
     pub fn undo(mut self, count: usize, out: &mut Out) -> Done {
         let Some(stored) = &self.stored else { return usage("there is no history of standard input to undo") };
         let there = self.history.commands.len();
-        let fits = (0..count.min(there)).all(|n| self.history.take_back(&mut self.codeplug, n));
-        if stored.has_foreign_history() || !fits {
+        let undone = (0..count.min(there)).try_fold(self.file.clone(), |file, n| self.history.take_back(file, n));
+        let (false, Some(file)) = (stored.has_foreign_history(), undone) else {
             if self.options.dry_run {
                 stored.say_foreign();
             } else {
                 stored.set_history_aside()?;
             }
-            return Err(self.refused(38, NOTHING));
-        }
+            return Err(self.refused(NO_UNDO, NO_UNDO.text()));
+        };
         match there {
-            0 => return Err(self.refused(38, NOTHING)),
-            _ if there < count => return Err(self.refused(38, format!("{there} commands can be undone, and not {count}"))),
-            _ if self.options.dry_run => return print(&self.changes()?, "", out),
-            _ => self.history.forget(self.codeplug.history(), count),
+            0 => return Err(self.refused(NO_UNDO, NO_UNDO.text())),
+            _ if there < count => return Err(self.refused(NO_UNDO, format!("of {count} commands only {there} can be undone"))),
+            _ if self.options.dry_run => return print(&self.changes(&file)?, "", out),
+            _ => self.history.forget(count),
         }
-        stored.replace(self.codeplug.bytes(), &self.history, Order::CodeplugFirst)?;
-        self.tell()
+        stored.replace(&file, &self.history, Order::CodeplugFirst)?;
+        self.tell(&file)
     }
 
-    fn changes(&self) -> Result<Vec<String>, Fail> {
-        let now = Records::of(self.codeplug.bytes()).map_err(|r| self.refused(r.number, r.text()))?;
+    /// What a file differs in from the one that was opened.
+    fn changes(&self, file: &[u8]) -> Result<Vec<String>, Fail> {
+        let now = Records::of(file).map_err(|refused| self.refused(refused, refused.text()))?;
         Ok(changes(&self.records, &now))
     }
 
     /// Says what was changed, where it is asked for.
-    fn tell(&self) -> Done {
+    fn tell(&self, file: &[u8]) -> Done {
         if self.options.verbose {
-            self.changes()?.iter().for_each(|line| say(line));
+            self.changes(file)?.iter().for_each(|line| say(line));
         }
         Ok(())
     }
 }
-
-const NOTHING: &str = "there is nothing to undo";
 
 /// Lists what can be undone, newest first.
 pub fn history(mut args: Args, out: &mut Out) -> Done {
@@ -184,15 +208,15 @@ pub fn history(mut args: Args, out: &mut Out) -> Done {
     }
     // All is read: nobody has to wait while it is shown.
     drop(stored);
-    let mut codeplug = Codeplug::restore(&file, &history.bytes, FILE_MAX, 0).map_err(refused)?;
+    let mut state = file.clone();
     for n in 0..history.commands.len().min(most) {
-        if !history.take_back(&mut codeplug, n) {
-            return Err(Fail::Io(format!("{}: its history is damaged: what follows cannot be undone", name.to_string_lossy())));
-        }
-        let older = Records::of(codeplug.bytes()).map_err(refused)?;
+        let Some(before) = history.take_back(state, n) else {
+            return Err(Fail::Io(format!("{}: its history is damaged, and what follows cannot be undone", shown(&name))));
+        };
+        let older = Records::of(&before).map_err(refused)?;
         out.line(&(n + 1).to_string())?;
         print(&changes(&older, &newer), "  ", out)?;
-        newer = older;
+        (newer, state) = (older, before);
     }
     Ok(())
 }

@@ -30,7 +30,8 @@ pub fn sha256(bytes: &[u8]) -> Digest {
     digest
 }
 
-fn compress(state: &mut [u32; 8], block: &[u8]) {
+/// The sixteen words of a block, and 48 more made of them.
+fn schedule(block: &[u8]) -> [u32; 64] {
     let mut w = [0_u32; 64];
     w.iter_mut().zip(block.chunks(4)).for_each(|(word, bytes)| *word = u32::from_be_bytes([bytes[0], bytes[1], bytes[2], bytes[3]]));
     for i in 16..64 {
@@ -39,11 +40,15 @@ fn compress(state: &mut [u32; 8], block: &[u8]) {
         let s1 = b.rotate_right(17) ^ b.rotate_right(19) ^ (b >> 10);
         w[i] = w[i - 16].wrapping_add(s0).wrapping_add(w[i - 7]).wrapping_add(s1);
     }
+    w
+}
+
+fn compress(state: &mut [u32; 8], block: &[u8]) {
     let [mut a, mut b, mut c, mut d, mut e, mut f, mut g, mut h] = *state;
-    for i in 0..64 {
+    for (word, round) in schedule(block).into_iter().zip(ROUNDS) {
         let s1 = e.rotate_right(6) ^ e.rotate_right(11) ^ e.rotate_right(25);
         let choice = (e & f) ^ (!e & g);
-        let t1 = h.wrapping_add(s1).wrapping_add(choice).wrapping_add(ROUNDS[i]).wrapping_add(w[i]);
+        let t1 = h.wrapping_add(s1).wrapping_add(choice).wrapping_add(round).wrapping_add(word);
         let s0 = a.rotate_right(2) ^ a.rotate_right(13) ^ a.rotate_right(22);
         let majority = (a & b) ^ (a & c) ^ (b & c);
         (h, g, f, e, d, c, b) = (g, f, e, d.wrapping_add(t1), c, b, a);

@@ -7,7 +7,7 @@ use crate::out::{Out, Paint};
 use crate::records::Records;
 use crate::rows::{rows_of, Form};
 use crate::which::place_of;
-use codeplug::Refused;
+use codeplug::{prevalidated, Refused};
 use std::ffi::OsStr;
 
 /// A file's records, or its refusal in words.
@@ -17,30 +17,38 @@ pub fn open(name: &OsStr) -> Result<Records, Fail> {
 }
 
 pub fn refused_open(name: &OsStr, file: &[u8], refused: Refused) -> Fail {
-    let about = if name == "-" { "standard input".into() } else { name.to_string_lossy().into_owned() };
-    Fail::Refused { about, refused, words: refused_file(file, refused) }
+    Fail::Refused { about: shown(name), refused, words: refused_file(file, refused) }
 }
 
-/// What is shown: everything, one sort of records, or one record.
-enum Part {
+/// A file as it was named.
+pub fn shown(name: &OsStr) -> String {
+    if name == "-" {
+        "standard input".into()
+    } else {
+        name.to_string_lossy().into_owned()
+    }
+}
+
+/// What is shown: everything, one part, or one record.
+enum Wanted {
     All,
-    Sort(&'static str),
+    List(&'static str),
     One(&'static str, String),
 }
 
-const SORTS: [&str; 4] = ["header", "contacts", "channels", "banks"];
+const PARTS: [&str; 4] = ["header", "contacts", "channels", "banks"];
 const ONES: [&str; 3] = ["contact", "channel", "bank"];
 
-fn part(args: &mut Args) -> Result<Part, Fail> {
+fn wanted(args: &mut Args) -> Result<Wanted, Fail> {
     if !args.has_next() {
-        return Ok(Part::All);
+        return Ok(Wanted::All);
     }
     let word = args.next_text("PART")?;
-    if let Some(sort) = SORTS.iter().find(|sort| **sort == word) {
-        return Ok(Part::Sort(sort));
+    if let Some(part) = PARTS.iter().find(|part| **part == word) {
+        return Ok(Wanted::List(part));
     }
     match ONES.iter().find(|one| **one == word) {
-        Some(one) => Ok(Part::One(one, args.next_text("WHICH")?)),
+        Some(one) => Ok(Wanted::One(one, args.next_text("WHICH")?)),
         None => usage(format!("'{word}' is no part: header, contacts, channels, banks, or contact, channel or bank with WHICH")),
     }
 }
@@ -53,49 +61,59 @@ pub fn show(mut args: Args, out: &mut Out) -> Done {
         _ => Form::Table,
     };
     let name = args.next("FILE")?;
-    let part = part(&mut args)?;
+    let wanted = wanted(&mut args)?;
     args.end("show")?;
-    if form == Form::Csv && matches!(part, Part::All) {
+    if form == Form::Csv && matches!(wanted, Wanted::All) {
         return usage("--csv shows one part: header, contacts, channels or banks");
     }
-    let records = open(&name)?;
-    match part {
-        Part::All if form == Form::Json => all_json(&records, out),
-        Part::All => all_tables(&records, out),
-        Part::Sort(sort) => rows_of(&records, sort).print(form, out),
-        Part::One(kind, which) => one(&records, &name, kind, &which, form, out),
+    let file = read_codeplug(&name)?;
+    let records = Records::of(&file).map_err(|refused| refused_open(&name, &file, refused))?;
+    match wanted {
+        Wanted::All if form == Form::Json => all_json(&records, out),
+        Wanted::All => all_tables(&records, out),
+        Wanted::List(part) => rows_of(&records, part).print(form, out),
+        Wanted::One(part, which) => {
+            let n = place_of(part, &which, &records.names(part)).or_else(usage)?;
+            is_there(&file, part, n).map_err(|refused| {
+                let words = format!("there is no {part} {n}: the codeplug has {}", records.names(part).len());
+                Fail::Refused { about: shown(&name), refused, words }
+            })?;
+            one(&records, part, n, form, out)
+        }
     }
 }
 
 fn all_tables(records: &Records, out: &mut Out) -> Done {
-    for sort in SORTS {
-        if sort != SORTS[0] {
+    for part in PARTS {
+        if part != PARTS[0] {
             out.line("")?;
         }
-        out.painted(sort, Paint::Bold)?;
-        rows_of(records, sort).print(Form::Table, out)?;
+        out.painted(part, Paint::Bold)?;
+        rows_of(records, part).print(Form::Table, out)?;
     }
     Ok(())
 }
 
 fn all_json(records: &Records, out: &mut Out) -> Done {
-    let parts = SORTS.map(|sort| format!("  \"{sort}\": {}", rows_of(records, sort).json("  ")));
+    let parts = PARTS.map(|part| format!("  \"{part}\": {}", rows_of(records, part).json("  ")));
     out.line(&format!("{{\n{}\n}}", parts.join(",\n")))
 }
 
-/// One contact, channel or bank.
-fn one(records: &Records, name: &OsStr, kind: &'static str, which: &str, form: Form, out: &mut Out) -> Done {
-    let names = records.names(kind);
-    let n = place_of(kind, which, &names).or_else(usage)?;
-    if n >= names.len() {
-        let refused = Refused { number: 33, place: 0 };
-        let words = format!("there is no {kind} {n}: the codeplug has {}", names.len());
-        return Err(Fail::Refused { about: name.to_string_lossy().into_owned(), refused, words });
+/// Whether the library has a record at a place.
+fn is_there(file: &[u8], part: &str, n: usize) -> Result<(), Refused> {
+    match part {
+        "contact" => prevalidated::contact(file, n).map(|_| ()),
+        "channel" => prevalidated::channel(file, n).map(|_| ()),
+        _ => prevalidated::bank(file, n).map(|_| ()),
     }
-    if kind == "bank" && form == Form::Table {
+}
+
+/// One contact, channel or bank.
+fn one(records: &Records, part: &str, n: usize, form: Form, out: &mut Out) -> Done {
+    if part == "bank" && form == Form::Table {
         return one_bank(records, n, out);
     }
-    rows_of(records, &format!("{kind}s")).only(n).print(form, out)
+    rows_of(records, &format!("{part}s")).only(n).print(form, out)
 }
 
 fn one_bank(records: &Records, n: usize, out: &mut Out) -> Done {

@@ -75,8 +75,8 @@ impl Stored {
     /// Replaces both files. Until both are in place, they stay locked.
     pub fn replace(&self, codeplug: &[u8], history: &History, order: Order) -> Done {
         let folder = Folder::of(&self.path)?;
-        let history = Prepared::replacing(&beside(&self.path, ".history"), &history.stored(), &self.locked)?;
         let codeplug = Prepared::replacing(&self.path, codeplug, &self.locked)?;
+        let history = Prepared::replacing(&beside(&self.path, ".history"), &history.stored(), &self.locked)?;
         if !unchanged(&self.path, &self.opened) {
             return Err(Fail::Io(format!("{}: was changed by something else meanwhile; nothing is saved", self.path.display())));
         }

@@ -29,14 +29,9 @@ pub fn fixed_text(value: i64, digits: usize, least: usize) -> String {
 
 /// A frequency: MHz unless a unit is given, to the hertz.
 pub fn frequency(text: &str) -> Result<u32, String> {
-    let lower = text.to_ascii_lowercase();
-    let (number, digits) = match () {
-        _ if lower.ends_with("mhz") => (&lower[..lower.len() - 3], 6),
-        _ if lower.ends_with("khz") => (&lower[..lower.len() - 3], 3),
-        _ if lower.ends_with("hz") => (&lower[..lower.len() - 2], 0),
-        _ => (&lower[..], 6),
-    };
-    let hertz = fixed(number.trim_end(), digits).and_then(|hertz| u32::try_from(hertz).ok());
+    let units = [("mhz", 6), ("khz", 3), ("hz", 0)];
+    let (unit, digits) = units.into_iter().find(|(unit, _)| without_unit(text, unit) != text).unwrap_or(("", 6));
+    let hertz = fixed(without_unit(text, unit), digits).and_then(|hertz| u32::try_from(hertz).ok());
     hertz.ok_or(format!("'{text}' is no frequency: MHz with at most six digits after the point, up to 4294.967295"))
 }
 
@@ -46,8 +41,8 @@ pub fn mhz(hertz: u32) -> String {
 
 /// Power as the format stores it, fifths of a dBm above 10 dBm.
 pub fn power(text: &str) -> Result<u8, String> {
-    let number = text.strip_suffix("dBm").unwrap_or(text).trim_end();
-    let fifths = fixed(number, 1).filter(|tenths| tenths % 2 == 0).and_then(|tenths| u8::try_from((tenths - 100) / 2).ok());
+    let fifths =
+        fixed(without_unit(text, "dBm"), 1).filter(|tenths| tenths % 2 == 0).and_then(|tenths| u8::try_from((tenths - 100) / 2).ok());
     fifths.ok_or(format!("'{text}' is no power: 10 to 61 dBm in steps of 0.2"))
 }
 
@@ -66,7 +61,7 @@ pub fn degrees_text(floor: i8, e4: u16) -> String {
 }
 
 pub fn altitude(text: &str) -> Result<u16, String> {
-    let metres = fixed(text.strip_suffix('m').unwrap_or(text), 0).and_then(|metres| u16::try_from(metres + 500).ok());
+    let metres = fixed(without_unit(text, "m"), 0).and_then(|metres| u16::try_from(metres + 500).ok());
     metres.ok_or(format!("'{text}' is no altitude: whole metres from -500 to 65035"))
 }
 
@@ -81,10 +76,23 @@ pub fn small(text: &str) -> Result<u8, String> {
     whole(text, 255).map(|n| n as u8).ok_or(format!("'{text}' is no number from 0 to 255"))
 }
 
+/// Whether a text is the word of a blank, off or none, in any letters.
+pub fn is_blank(text: &str, word: &str) -> bool {
+    text.eq_ignore_ascii_case(word)
+}
+
+/// A text without the unit that may stand behind it.
+pub fn without_unit<'a>(text: &'a str, unit: &str) -> &'a str {
+    match text.len().checked_sub(unit.len()) {
+        Some(at) if text.is_char_boundary(at) && text[at..].eq_ignore_ascii_case(unit) => text[..at].trim_end(),
+        _ => text,
+    }
+}
+
 /// A number from 1, or none, which is stored as 0.
 pub fn list(text: &str) -> Result<u8, String> {
     match small(text) {
-        _ if text.eq_ignore_ascii_case("none") => Ok(0),
+        _ if is_blank(text, "none") => Ok(0),
         Ok(0) => Err("0 is no list; to be in none is asked for by 'none'".into()),
         Ok(n) => Ok(n),
         Err(_) => Err(format!("'{text}' is neither a number from 1 to 255 nor 'none'")),

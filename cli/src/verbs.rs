@@ -1,41 +1,41 @@
 //! The verbs that change a codeplug: each is one or more of the twelve edits.
 use crate::args::Args;
 use crate::disk::{real_path, Folder, Prepared};
-use crate::edits::{Edit, NO_PLACE};
+use crate::edits::Edit;
 use crate::fail::{io_fail, usage, Done, Fail};
 use crate::fields::{self, new_channel, new_contact, CHANNEL, CONTACT, HEADER};
 use crate::out::Out;
 use crate::session::{Options, Session};
 use crate::which::{place, place_of};
-use codeplug::{Channel, Codeplug, Contact, ContactInfo, Counts, Header, HEADER_SIZE};
+use codeplug::{Channel, Codeplug, Contact, ContactInfo, Counts, Header, Refused, HEADER_SIZE};
 use std::path::Path;
 
-/// The sorts of records, as words of a command.
-const SORTS: [&str; 5] = ["contact", "channel", "bank", "entry", "header"];
+/// The parts of a codeplug, as words of a command.
+const PARTS: [&str; 5] = ["contact", "channel", "bank", "entry", "header"];
 
-/// The next argument, one of some sorts.
-pub fn sort_of(args: &mut Args, sorts: &[&'static str]) -> Result<&'static str, Fail> {
+/// The next argument, one of some parts.
+pub fn part_of(args: &mut Args, parts: &[&'static str]) -> Result<&'static str, Fail> {
     let word = args.next_text("PART")?;
-    let known = SORTS.iter().find(|sort| **sort == word && sorts.contains(sort));
-    known.copied().map_or_else(|| usage(format!("'{word}' is no part: {}", sorts.join(", "))), Ok)
+    let known = PARTS.iter().find(|part| **part == word && parts.contains(part));
+    known.copied().map_or_else(|| usage(format!("'{word}' is no part: {}", parts.join(", "))), Ok)
 }
 
 /// A record's place by an argument.
-pub fn which(session: &Session, sort: &str, text: &str) -> Result<usize, Fail> {
-    place_of(sort, text, &session.records.names(sort)).or_else(usage)
+pub fn which(session: &Session, part: &str, text: &str) -> Result<usize, Fail> {
+    place_of(part, text, &session.records.names(part)).or_else(usage)
 }
 
-/// The record at a place; where there is none, the library's refusal of an edit there.
-pub fn record_at<'a, R>(session: &Session, records: &'a [R], n: usize, edit: Edit) -> Result<&'a R, Fail> {
-    records.get(n).ok_or_else(|| session.refused(NO_PLACE.number, edit.no_place(session.codeplug())))
+/// A record that the library read or refused; `edit` is one of it, which has the words.
+pub fn found<R>(session: &Session, read: Result<R, Refused>, edit: Edit) -> Result<R, Fail> {
+    read.map_err(|refused| session.refused(refused, edit.no_place(session.codeplug())))
 }
 
 pub fn contact_at(session: &Session, n: usize) -> Result<Contact, Fail> {
-    record_at(session, &session.records.contacts, n, Edit::RemoveContact(n)).cloned()
+    found(session, session.codeplug().contact(n), Edit::RemoveContact(n))
 }
 
 pub fn channel_at(session: &Session, n: usize) -> Result<Channel, Fail> {
-    record_at(session, &session.records.channels, n, Edit::RemoveChannel(n)).cloned()
+    found(session, session.codeplug().channel(n), Edit::RemoveChannel(n))
 }
 
 /// A file's new empty codeplug.
@@ -79,11 +79,11 @@ pub fn open(args: &mut Args) -> Result<Session, Fail> {
 pub fn set(mut args: Args, out: &mut Out) -> Done {
     let options = Options::of(&mut args)?;
     let file = args.next("FILE")?;
-    let sort = sort_of(&mut args, &["header", "contact", "channel", "bank"])?;
-    let text = if sort == "header" { String::new() } else { args.next_text("WHICH")? };
+    let part = part_of(&mut args, &["header", "contact", "channel", "bank"])?;
+    let text = if part == "header" { String::new() } else { args.next_text("WHICH")? };
     let mut session = Session::open(&file, options)?;
-    let n = if sort == "header" { 0 } else { which(&session, sort, &text)? };
-    let (edit, given) = match sort {
+    let n = if part == "header" { 0 } else { which(&session, part, &text)? };
+    let (edit, given) = match part {
         "header" => {
             let mut header = session.records.header.clone();
             let given = fields::set(HEADER, &mut header, &mut args, &[])?;
@@ -101,7 +101,7 @@ pub fn set(mut args: Args, out: &mut Out) -> Done {
         }
         _ => (Edit::RenameBank(n, bank_name(&mut args)?), vec!["name"]),
     };
-    args.end(sort)?;
+    args.end(part)?;
     if given.is_empty() {
         return usage("no field is given");
     }
@@ -109,8 +109,8 @@ pub fn set(mut args: Args, out: &mut Out) -> Done {
     session.save(out)
 }
 
-/// Sets a contact's fields. A contact that is new in its mode needs whom it calls.
-fn set_contact(contact: &mut Contact, args: &mut Args, named: bool) -> Result<Vec<&'static str>, Fail> {
+/// Sets a contact's fields. One that does not exist yet, or gets another mode, needs whom it calls.
+fn set_contact(contact: &mut Contact, args: &mut Args, exists: bool) -> Result<Vec<&'static str>, Fail> {
     let mode = std::mem::discriminant(&contact.info);
     let given = fields::set(CONTACT, contact, args, &[])?;
     let has = |option: &str| given.contains(&option);
@@ -118,7 +118,7 @@ fn set_contact(contact: &mut Contact, args: &mut Args, named: bool) -> Result<Ve
     if addresses > 1 {
         return usage("only one of --callsign, --broadcast and --address can be given");
     }
-    let new = !named || std::mem::discriminant(&contact.info) != mode;
+    let new = !exists || std::mem::discriminant(&contact.info) != mode;
     match contact.info {
         ContactInfo::Dmr { .. } if new && !has("id") => usage("a new DMR contact needs its --id"),
         ContactInfo::M17(_) if new && addresses == 0 => usage("a new M17 contact needs its --callsign, --address or --broadcast"),
@@ -147,19 +147,19 @@ fn needed(given: &[&str], options: &[&str], what: &str) -> Done {
 pub fn add(mut args: Args, out: &mut Out) -> Done {
     let options = Options::of(&mut args)?;
     let file = args.next("FILE")?;
-    let sort = sort_of(&mut args, &["contact", "channel", "bank", "entry"])?;
+    let part = part_of(&mut args, &["contact", "channel", "bank", "entry"])?;
     let at = args.number("at", usize::MAX)?;
     let like = args.value("like");
     let mut session = Session::open(&file, options)?;
     let records = &session.records;
-    let edit = match sort {
+    let edit = match part {
         "contact" => Edit::InsertContact(at.unwrap_or(records.contacts.len()), new_contact_of(&session, &mut args, like)?),
         "channel" => Edit::InsertChannel(at.unwrap_or(records.channels.len()), new_channel_of(&session, &mut args, like)?),
         _ if like.is_some() => return usage("only a contact or a channel is added --like another"),
         "bank" => Edit::InsertBank(at.unwrap_or(records.banks.len()), bank_name(&mut args)?),
         _ => new_entry(&session, &mut args, at)?,
     };
-    args.end(sort)?;
+    args.end(part)?;
     session.make(&edit)?;
     session.save(out)
 }
@@ -206,26 +206,26 @@ fn new_entry(session: &Session, args: &mut Args, at: Option<usize>) -> Result<Ed
 
 pub fn remove(mut args: Args, out: &mut Out) -> Done {
     let mut session = open(&mut args)?;
-    let sort = sort_of(&mut args, &["contact", "channel", "bank", "entry"])?;
-    let n = which(&session, if sort == "entry" { "bank" } else { sort }, &args.next_text("WHICH")?)?;
-    let edit = match sort {
+    let part = part_of(&mut args, &["contact", "channel", "bank", "entry"])?;
+    let n = which(&session, if part == "entry" { "bank" } else { part }, &args.next_text("WHICH")?)?;
+    let edit = match part {
         "contact" => Edit::RemoveContact(n),
         "channel" => Edit::RemoveChannel(n),
         "bank" => Edit::RemoveBank(n),
         _ => Edit::RemoveEntry(n, place(&args.next_text("PLACE")?)?),
     };
-    args.end(&format!("remove {sort}"))?;
+    args.end(&format!("remove {part}"))?;
     session.make(&edit)?;
     session.save(out)
 }
 
 pub fn rename(mut args: Args, out: &mut Out) -> Done {
     let mut session = open(&mut args)?;
-    let sort = sort_of(&mut args, &["contact", "channel", "bank"])?;
-    let n = which(&session, sort, &args.next_text("WHICH")?)?;
+    let part = part_of(&mut args, &["contact", "channel", "bank"])?;
+    let n = which(&session, part, &args.next_text("WHICH")?)?;
     let name = if args.flag("no-name") { String::new() } else { args.next_text("NAME")? };
     args.end("rename")?;
-    let edit = match sort {
+    let edit = match part {
         "contact" => Edit::ReplaceContact(n, Contact { name, ..contact_at(&session, n)? }),
         "channel" => Edit::ReplaceChannel(n, Channel { name, ..channel_at(&session, n)? }),
         _ => Edit::RenameBank(n, name),

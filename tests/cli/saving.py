@@ -71,15 +71,22 @@ def sha(plug):
 
 
 def read_head(data):
-    """The size, the first state's SHA-256, (entries, SHA-256) of each command newest first, and the library's bytes."""
+    """The size, the first state's SHA-256, (entries, SHA-256) of each command newest first, and the library's bytes. The batches' lengths are
+    held to the entries' own."""
     text, blank, raw = data.partition(b"\n\n")
     assert blank, "no empty line ends the head"
     first, size, before, *commands = text.decode("ascii").split("\n")
     assert first == "codeplug history 1", first
     words = [line.split(" ") for line in (size, before, *commands)]
     assert [w[0] for w in words] == ["size", "before"] + ["command"] * len(commands), words
-    assert all(len(w) == 3 and len(w[2]) == 64 for w in words[2:]) and len(words[1][1]) == 64, words
-    return Head(int(words[0][1]), words[1][1], [(int(w[1]), w[2]) for w in words[2:]], raw)
+    assert all(len(w) > 2 and len(w[1]) == 64 for w in words[2:]) and len(words[1][1]) == 64, words
+    batches = [[tuple(map(int, batch.split(":"))) for batch in w[2:]] for w in words[2:]]
+    at = 0
+    for entries, length in sum(batches, []):
+        assert 0 < entries <= 256 and len(entries_of(raw[at : at + length])) == entries, words
+        at += length
+    assert at == len(raw), words
+    return Head(int(words[0][1]), words[1][1], [(sum(b[0] for b in own), w[1]) for own, w in zip(batches, words[2:])], raw)
 
 
 def number_at(raw, at):

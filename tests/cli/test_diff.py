@@ -50,6 +50,42 @@ class Same(Diff):
                     self.assertNotEqual(self.ok("diff", self.club, spoilt), "", at)
 
 
+class SameNames(Diff):
+    """Contacts of one name: whom a channel calls is told all the same."""
+
+    def opening(self):
+        plug = example()
+        plug["contacts"][1]["name"] = "Local"
+        return plug
+
+    def calls_of(self, change):
+        return [line for line in self.diff(change, self.opening()) if line.startswith("~ channel")]
+
+    def test_contacts_exchanged_and_channels_left(self):
+        def change(plug):
+            plug["contacts"][:2] = reversed(plug["contacts"][:2])
+
+        self.assertEqual(self.calls_of(change), ["~ channel 4 (Hill local): contact: 0 (Local), now 1 -> 0 (Local)",
+                                                 "~ channel 5 (Hill region): contact: 1 (Local), now 0 -> 1 (Local)"])
+
+    def test_contacts_exchanged_and_channels_followed(self):
+        self.assertEqual(self.calls_of(lambda plug: reorder(plug, "contacts", [1, 0, 2, 3, 4, 5])), [])
+
+    def test_another_of_the_same_name(self):
+        def change(plug):
+            plug["channels"][4]["contact"] = 1
+
+        self.assertEqual(self.calls_of(change), ["~ channel 4 (Hill local): contact: 0 (Local), now 0 -> 1 (Local)"])
+
+    def test_the_one_that_was_called_is_gone(self):
+        def change(plug):
+            plug["channels"][4]["contact"] = None
+            without(plug, "contacts", 0)
+            plug["channels"][4]["contact"] = 0
+
+        self.assertEqual(self.calls_of(change), ["~ channel 4 (Hill local): contact: 0 (Local), gone -> 0 (Local)"])
+
+
 class Fields(Diff):
     def test_a_channels_field(self):
         self.assertEqual(self.changed("channels", 0, {"transmit_tone": (True, 8)}), ["~ channel 0 (Hill): transmit tone: 71.9 -> 88.5"])

@@ -153,6 +153,9 @@ CHANNELS = [
     (9, ["--contact", "Secretary"], {"contact": 5}),
     (3, ["--transmit-tone", "88.5", "--contact", "none"], {"transmit_tone": (True, 8)}),
     (7, ["--transmit-tone", "off", "--receive-tone", "off", "--contact", "none"], {"contact": None}),
+    (7, ["--transmit-tone", "Off", "--contact", "NONE"], {"contact": None}),
+    (0, ["--transmit-tone", "OFF:88.5", "--scan-list", "None", "--receive-only", "YES"], {"transmit_tone": (False, 8), "receive_only": True}),
+    (0, ["--transmit-tone", "100.0Hz", "--bandwidth", "25kHz", "--power", "37.4 dbm"], {"transmit_tone": (True, 12), "bandwidth": "25", "power": 137}),
 ]
 
 

@@ -3,7 +3,7 @@ import os
 import re
 import unittest
 
-from saving import Case, commands_in, entries_of, run, sample, sha, states_of, with_author, with_bank, with_timestamp
+from saving import SMALL, Case, commands_in, entries_of, run, sample, sha, states_of, with_author, with_bank, with_timestamp
 
 EDITS = (
     ("set", "header", "--author", "Author"), ("set", "contact", "0", "--id", "77"), ("set", "channel", "2", "--transmit-tone", "88.5"),
@@ -78,6 +78,37 @@ class Listed(Case):
         self.authors("One", "Two")
         with self.unchanged():
             self.assertEqual(self.listed(), 2)
+
+
+class Batches(Case):
+    """A command of many edits is stored in batches, and undone as a whole, in little time."""
+    content = sample("hire")
+
+    def test_a_bank_of_many_entries(self):
+        start = len(self.content) + 38
+        entries = 3_000
+        plug = with_bank(self.content, "Many")
+        plug = plug[:-2] + entries.to_bytes(2, "little") + bytes(n % 40 if m == 0 else 0 for n in range(entries) for m in range(2))
+        self.file.write_bytes(plug)
+        self.edit("move", self.file, "bank", "4", "0")
+        (count, _), = self.head().commands
+        self.assertEqual((count, len(plug)), (entries + 2, start + 2 * entries))
+        self.assertEqual(states_of(self.file.read_bytes(), self.head()), [plug])
+        self.edit("move", self.file, "bank", "0", "4")
+        self.assertEqual(self.file.read_bytes(), plug)
+        self.edit("undo", self.file, "--count", "2")
+        self.assertEqual(self.file.read_bytes(), plug)
+
+    def test_many_commands(self):
+        """No more than 10,000 are kept; the oldest go."""
+        self.author("First", *SMALL)
+        head, raw = self.history.read_bytes().split(b"\n\n", 1)
+        lines = head.split(b"\n")
+        self.history.write_bytes(b"\n".join(lines[:3] + lines[3:] * 10_000) + b"\n\n" + raw * 10_000)
+        self.author("Last", "--history-size", "9999999")
+        self.assertEqual(len(self.head().commands), 10_000)
+        self.history.write_bytes(b"\n".join(lines[:3] + lines[3:] * 10_001) + b"\n\n" + raw * 10_001)
+        self.assertEqual(run("undo", self.file).status, 1)
 
 
 class Undone(Case):
@@ -339,9 +370,13 @@ class Damaged(Case):
         yield "size of many digits", re.sub(rb"size \d+", b"size 99999999999999999999999", self.whole)
         yield "size below 0", re.sub(rb"size \d+", b"size -1", self.whole)
         yield "size of words", re.sub(rb"size \d+", b"size large", self.whole)
-        yield "a command of no entries", self.whole.replace(b"command 1", b"command 0", 1)
-        yield "a command of too many", self.whole.replace(b"command 1", b"command 4", 1)
-        yield "a command of far too many", self.whole.replace(b"command 1", b"command 18446744073709551615", 1)
+        yield "a command of no entries", self.whole.replace(b" 1:", b" 0:", 1)
+        yield "a command of no batches", re.sub(rb" 1:\d+", b"", self.whole, count=1)
+        yield "a command of an empty batch", self.whole.replace(b" 1:", b" 0:0 1:", 1)
+        yield "a command of too many", self.whole.replace(b" 1:", b" 4:", 1)
+        yield "a command of far too many", self.whole.replace(b" 1:", b" 18446744073709551615:", 1)
+        yield "a batch that is too long", re.sub(rb" 1:\d+", b" 1:18446744073709551615", self.whole, count=1)
+        yield "a batch that is too short", re.sub(rb" 1:\d+", b" 1:2", self.whole, count=1)
         yield "fewer commands than entries", head[:last] + head[head.index(b"\n", last) + 1 :] + raw
         yield "commands twice", head[:-1] + head[last:-1] + b"\n" + raw
         yield "bytes after it", self.whole + b"\0"

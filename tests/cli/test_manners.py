@@ -62,6 +62,14 @@ class Usage(Case):
             with self.subTest(verb):
                 self.usage(verb)
 
+    def test_help_and_version_are_no_values(self):
+        """A script is not told that something was done where help was printed."""
+        for words in (["set", "-", "channel", "0", "--name", "--help"], ["set", "-", "channel", "0", "--name", "--version"], ["rename", "-", "channel", "0", "-h"]):
+            self.usage(*words)
+        for words in (["set", "-", "channel", "0", "--name", "-h"], ["rename", "-", "channel", "0", "--", "--help"], ["set", "-", "channel", "0", "--name=--help"]):
+            answer = run(*words, stdin=self.club.read_bytes())
+            self.assertEqual((answer.status, parse(answer.out)["channels"][0]["name"].strip("-")[0]), (0, "h"), words)
+
     def test_the_verb_is_named(self):
         self.assertIn("dance", self.usage("dance", self.club))
 

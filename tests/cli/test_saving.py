@@ -53,18 +53,38 @@ class Permissions(Case):
             self.author(oct(mode), umask=0)
             self.assertEqual(owner_of(self.history)[2] & ~mode, 0, oct(mode))
 
-    def test_access_list_gives_nobody_more(self):
-        """A list that lets one more person in, and not the group: it is kept, or at least the group is still not let in."""
+    def give_list(self, path, name):
+        """Gives an access list that lets one more person in, and not the group."""
         whole, nobody = 6, 0xFFFFFFFF
         entries = ((1, whole, nobody), (2, whole, 1234), (4, 0, nobody), (0x10, whole, nobody), (0x20, 0, nobody))
         given = struct.pack("<I", 2) + b"".join(struct.pack("<HHI", *entry) for entry in entries)
         try:
-            os.setxattr(self.file, ACCESS_LIST, given)
+            os.setxattr(path, name, given)
         except OSError as error:
             self.skipTest(f"no access lists here: {error}")
+        return given
+
+    def test_access_list_is_kept(self):
+        given = self.give_list(self.file, ACCESS_LIST)
         self.author("Listed")
-        kept = ACCESS_LIST in os.listxattr(self.file) and os.getxattr(self.file, ACCESS_LIST) == given
-        self.assertTrue(kept or owner_of(self.file)[2] & 0o070 == 0, oct(owner_of(self.file)[2]))
+        self.assertEqual([os.getxattr(path, ACCESS_LIST) for path in (self.file, self.history)], [given] * 2)
+
+    def test_access_list_of_the_folder_is_not_taken(self):
+        """A file that has none gets none, so that nobody is let in."""
+        self.file.chmod(0o640)
+        self.give_list(self.folder, "system.posix_acl_default")
+        self.author("Not listed")
+        self.edit("undo", self.file)
+        for path in (self.file, self.history):
+            self.assertEqual((ACCESS_LIST in os.listxattr(path), owner_of(path)[2]), (False, 0o640))
+
+    def test_attributes_are_kept(self):
+        try:
+            os.setxattr(self.file, "user.note", b"mine")
+        except OSError as error:
+            self.skipTest(f"no attributes here: {error}")
+        self.author("Noted")
+        self.assertEqual(os.getxattr(self.file, "user.note"), b"mine")
 
     def test_history_follows_a_file_made_private(self):
         self.author("Open")

@@ -65,6 +65,14 @@ class Show(Case):
 
 
 class Tables(Show):
+    def test_names_that_look_like_nothing(self):
+        plug = example()
+        for kind in ("contacts", "channels", "banks"):
+            for record in plug[kind]:
+                record["name"] = "-"
+            head = self.ok("show", self.write("a", build(plug)), kind).splitlines()[0]
+            self.assertIn("name", head.split())
+
     def test_header(self):
         out = self.ok("show", self.club, "header")
         for text in ("Hilltop Radio Club", "Members' set, autumn", "1762000000"):

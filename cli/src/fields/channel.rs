@@ -2,7 +2,7 @@
 use super::Shown::{self, Alone, InTables, Never};
 use super::{put, Fault, Field, Set, Setter};
 use crate::cell::Cell;
-use crate::values::{self, degrees_text, small, word};
+use crate::values::{self, degrees_text, is_blank, small, without_unit, word};
 use crate::which::place_of;
 use codeplug::{tone_index, Channel, Contact, ContactInfo, Info, Tone};
 
@@ -10,6 +10,8 @@ const MODES: &[&str] = &["FM", "DMR", "M17"];
 const BANDWIDTHS: &[&str] = &["12.5", "20", "25"];
 const OPERATIONS: &[&str] = &["voice", "data", "both"];
 const ENCRYPTIONS: &[&str] = &["plain", "aes-256", "scrambler"];
+/// No text is this word: the field has no blank.
+const NO_BLANK: &str = "";
 const NO_YES: [&str; 2] = ["no", "yes"];
 const OFF_ON: [&str; 2] = ["off", "on"];
 
@@ -61,14 +63,14 @@ macro_rules! by_mode {
                 let mode = c.info.mode();
                 match &mut c.info {
                     $(Info::$mode { $field, .. })|+ => put($field, $set(text, (mode, *$field, contacts))?),
-                    _ if Some(text) == $blank => Ok(()),
+                    _ if is_blank(text, $blank) => Ok(()),
                     other => none_of(other),
                 }
             }),
         )
     };
     ($field:ident: $($mode:ident)|+, $get:expr, $set:expr) => {
-        by_mode!($field: $($mode)|+, $get, $set, None::<&str>)
+        by_mode!($field: $($mode)|+, $get, $set, NO_BLANK)
     };
 }
 
@@ -109,17 +111,17 @@ fn set_number(text: &str, _: Known<u8>) -> Result<u8, String> {
 /// A tone in hertz, which has to be in the table; off, which keeps the index; or off with the tone to keep.
 fn set_tone(text: &str, (_, tone, _): Known<Tone>) -> Result<Tone, String> {
     let index = |hertz: &str| {
-        let tenths = values::fixed(hertz, 1).and_then(|tenths| u16::try_from(tenths).ok());
+        let tenths = values::fixed(without_unit(hertz, "Hz"), 1).and_then(|tenths| u16::try_from(tenths).ok());
         tenths.and_then(tone_index).ok_or(format!("'{hertz}' is no tone of the table ('codeplug tone' lists it), nor 'off'"))
     };
-    match text.strip_prefix("off:") {
-        Some(kept) => index(kept).map(Tone::Disabled),
-        None if text.eq_ignore_ascii_case("off") => Ok(Tone::Disabled(tone.index())),
-        None => index(text).map(Tone::Enabled),
+    match text.split_once(':') {
+        Some((off, kept)) if is_blank(off, "off") => index(kept).map(Tone::Disabled),
+        None if is_blank(text, "off") => Ok(Tone::Disabled(tone.index())),
+        _ => index(text).map(Tone::Enabled),
     }
 }
 
-fn shown_contact(contact: Option<u16>, contacts: &[Contact]) -> Cell {
+pub fn shown_contact(contact: Option<u16>, contacts: &[Contact]) -> Cell {
     match contact {
         None => Cell::Blank("none"),
         Some(place) => Cell::Contact(place, contacts.get(usize::from(place)).map_or(String::new(), |c| c.name.clone())),
@@ -128,7 +130,7 @@ fn shown_contact(contact: Option<u16>, contacts: &[Contact]) -> Cell {
 
 /// A contact by its place or its name, among those of the channel's mode first; whether it may be called, the library says.
 fn set_contact(text: &str, (mode, _, contacts): Known<Option<u16>>) -> Result<Option<u16>, String> {
-    if text == "none" {
+    if is_blank(text, "none") {
         return Ok(None);
     }
     let of_mode = |c: &&Contact| matches!(c.info, ContactInfo::Dmr { .. }) == (mode == 1);
@@ -170,7 +172,7 @@ pub static CHANNEL: &[Field<Channel>] = &[
         ("bandwidth_khz", "bandwidth", "bandwidth kHz", InTables),
         (
             |c, _| Cell::Decimal(BANDWIDTHS[usize::from(c.bandwidth.min(2))].into()),
-            Setter::Value(|c, text, _| put(&mut c.bandwidth, word(text, BANDWIDTHS)?)),
+            Setter::Value(|c, text, _| put(&mut c.bandwidth, word(without_unit(text, "kHz"), BANDWIDTHS)?)),
         ),
     ),
     field(
@@ -212,7 +214,7 @@ pub static CHANNEL: &[Field<Channel>] = &[
     ),
     field(
         ("receive_tone", "receive-tone", "receive tone", InTables),
-        by_mode!(receive_tone: Fm, |tone, _| Cell::Tone(tone), set_tone, Some("off")),
+        by_mode!(receive_tone: Fm, |tone, _| Cell::Tone(tone), set_tone, "off"),
     ),
     field(
         ("receive_tone_index", "", "", Never),
@@ -220,7 +222,7 @@ pub static CHANNEL: &[Field<Channel>] = &[
     ),
     field(
         ("transmit_tone", "transmit-tone", "transmit tone", InTables),
-        by_mode!(transmit_tone: Fm, |tone, _| Cell::Tone(tone), set_tone, Some("off")),
+        by_mode!(transmit_tone: Fm, |tone, _| Cell::Tone(tone), set_tone, "off"),
     ),
     field(
         ("transmit_tone_index", "", "", Never),
@@ -251,7 +253,7 @@ pub static CHANNEL: &[Field<Channel>] = &[
         ("position", "position", "position", Alone),
         by_mode!(position: M17, |on, _| Cell::Flag(on, OFF_ON), |text, _: Known<bool>| word(text, &OFF_ON).map(|on| on == 1)),
     ),
-    field(("contact", "contact", "contact", InTables), by_mode!(contact: Dmr | M17, shown_contact, set_contact, Some("none"))),
+    field(("contact", "contact", "contact", InTables), by_mode!(contact: Dmr | M17, shown_contact, set_contact, "none")),
     field(
         ("contact_name", "", "", Never),
         (

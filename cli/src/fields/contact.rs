@@ -139,9 +139,9 @@ pub static CONTACT: &[Field<Contact>] = &[
             ContactInfo::M17(Address::Broadcast) => Cell::Number(BROADCAST),
             ContactInfo::M17(Address::Callsign(number)) => Cell::Number(number),
         },
-        set: Setter::Value(|c, text, _| match values::address(text)? {
-            BROADCAST => m17(c, Address::Broadcast),
-            number => m17(c, Address::Callsign(number)),
+        set: Setter::Value(|c, text, _| {
+            let number = values::address(text)?;
+            m17(c, if decode_address(number) == Ok(None) { Address::Broadcast } else { Address::Callsign(number) })
         }),
     },
 ];

@@ -8,7 +8,7 @@ use crate::cell::Cell;
 use crate::fail::{usage, Fail};
 use codeplug::{Contact, Refused};
 
-pub use channel::{new_channel, CHANNEL};
+pub use channel::{new_channel, shown_contact, CHANNEL};
 pub use contact::{new_contact, CONTACT};
 pub use header::HEADER;
 
