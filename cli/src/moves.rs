@@ -5,7 +5,7 @@ use crate::edits::Edit;
 use crate::fail::{Done, Fail};
 use crate::out::Out;
 use crate::session::Session;
-use crate::verbs::{channel_at, contact_at, entry_of, found, open, part_of, which};
+use crate::verbs::{channel_at, contact_at, found, open, part_of, two_bytes, which};
 use crate::which::place;
 use codeplug::{prevalidated, Bank, Channel, Info};
 
@@ -38,7 +38,8 @@ fn move_contact(session: &mut Session, n: usize, to: usize) -> Done {
     callers.iter().try_for_each(|(c, channel)| session.make(&Edit::ReplaceChannel(*c, calling(channel, None))))?;
     session.make(&Edit::RemoveContact(n))?;
     session.make(&Edit::InsertContact(to, contact))?;
-    callers.iter().try_for_each(|(c, channel)| session.make(&Edit::ReplaceChannel(*c, calling(channel, u16::try_from(to).ok()))))
+    let place = two_bytes(to)?;
+    callers.iter().try_for_each(|(c, channel)| session.make(&Edit::ReplaceChannel(*c, calling(channel, Some(place)))))
 }
 
 /// A channel with another contact.
@@ -58,7 +59,7 @@ fn move_channel(session: &mut Session, n: usize, to: usize) -> Done {
     entries.iter().rev().try_for_each(|(bank, place)| session.make(&Edit::RemoveEntry(*bank, *place)))?;
     session.make(&Edit::RemoveChannel(n))?;
     session.make(&Edit::InsertChannel(to, channel))?;
-    let entry = entry_of(to)?;
+    let entry = two_bytes(to)?;
     entries.iter().try_for_each(|(bank, place)| session.make(&Edit::InsertEntry(*bank, *place, entry)))
 }
 

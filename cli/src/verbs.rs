@@ -192,16 +192,16 @@ fn new_channel_of(session: &Session, args: &mut Args, like: Option<String>) -> R
     Ok(channel)
 }
 
-/// A channel's number as an entry holds it.
-pub fn entry_of(n: usize) -> Result<u16, Fail> {
-    u16::try_from(n).or_else(|_| usage(format!("there is no channel {n}")))
+/// A place as the format holds it. Never a blank in place of one that is too large.
+pub fn two_bytes(n: usize) -> Result<u16, Fail> {
+    u16::try_from(n).or_else(|_| usage(format!("there is no place {n}")))
 }
 
 fn new_entry(session: &Session, args: &mut Args, at: Option<usize>) -> Result<Edit, Fail> {
     let bank = which(session, "bank", &args.next_text("BANK")?)?;
     let channel = which(session, "channel", &args.next_text("CHANNEL")?)?;
     let end = session.records.banks.get(bank).map_or(0, |bank| bank.entries.len());
-    Ok(Edit::InsertEntry(bank, at.unwrap_or(end), entry_of(channel)?))
+    Ok(Edit::InsertEntry(bank, at.unwrap_or(end), two_bytes(channel)?))
 }
 
 pub fn remove(mut args: Args, out: &mut Out) -> Done {

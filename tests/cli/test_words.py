@@ -35,6 +35,12 @@ class Words(Case):
     def test_readme_begins_with_the_program(self):
         self.assertEqual(tours()[0][0], "./codeplug check samples/club.rtxc")
 
+    def test_script_runs_the_program(self):
+        """From any folder, with the program's own output and status; it is built by then."""
+        for sample, status, line in (("club", 0, "ok 6 10 4\n"), ("club-trailing", 1, "refused 12 at 1400\n")):
+            done = subprocess.run([ROOT / "codeplug", "check", f"{sample}.rtxc"], cwd=self.folder, capture_output=True, timeout=600)
+            self.assertEqual((done.returncode, done.stdout.decode()), (status, line))
+
     def test_page_is_made_of_the_help(self):
         made = subprocess.run([ROOT / "cli/manual"], capture_output=True, check=True).stdout
         self.assertEqual(made, (ROOT / "docs/CLI.md").read_bytes())
