@@ -56,6 +56,11 @@ impl Args {
         self.arguments.len() > 0
     }
 
+    /// Whether an option was given.
+    pub fn has(&self, name: &str) -> bool {
+        self.options.iter().any(|(other, _)| other == name)
+    }
+
     /// Whether an option without a value was given; it counts as used.
     pub fn flag(&mut self, name: &str) -> bool {
         let before = self.options.len();
@@ -114,7 +119,7 @@ fn option(
         },
     };
     if value.is_empty() {
-        return usage(format!("{name}: an empty string is no value; a blank has a word of its own{}", blank_word(&plain)));
+        return usage(format!("{name}: an empty string is no value{}", blank_word(&plain)));
     }
     Ok((plain, Some(value)))
 }
@@ -122,9 +127,9 @@ fn option(
 /// The word that leaves an option's field blank.
 fn blank_word(name: &str) -> String {
     match name {
-        "name" | "description" | "author" => format!(": --no-{name}"),
-        "receive-tone" | "transmit-tone" => ": off".into(),
-        "contact" | "scan-list" | "group-list" => ": none".into(),
+        "name" | "description" | "author" => format!("; it is left empty by --no-{name}"),
+        "receive-tone" | "transmit-tone" => "; a blank is asked for by 'off'".into(),
+        "contact" | "scan-list" | "group-list" => "; a blank is asked for by 'none'".into(),
         _ => String::new(),
     }
 }
@@ -133,7 +138,7 @@ fn blank_word(name: &str) -> String {
 fn near(name: &str, values: &[&str], flags: &[&str]) -> String {
     let all = values.iter().chain(flags);
     match all.map(|other| (distance(name, other), other)).min() {
-        Some((d, other)) if d <= 2 => format!("; is --{other} meant?"),
+        Some((d, other)) if d <= 2 && d < name.len() => format!("; is --{other} meant?"),
         _ => String::new(),
     }
 }

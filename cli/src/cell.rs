@@ -43,7 +43,7 @@ impl Cell {
             Cell::Tone(Tone::Disabled(_)) => "off".into(),
             Cell::Text(text) => text.clone(),
             // A name that would be taken for a blank.
-            Cell::Contact(place, name) if matches!(&name[..], "" | "-" | "none") => format!("contact {place}"),
+            Cell::Contact(place, name) if matches!(&name[..], "" | "-") || name.eq_ignore_ascii_case("none") => format!("contact {place}"),
             Cell::Contact(_, name) => name.clone(),
             Cell::Numbers(numbers) => numbers.iter().map(u16::to_string).collect::<Vec<_>>().join(" "),
         }
@@ -60,15 +60,13 @@ impl Cell {
 
     /// This and another value, where they differ: as short as tells them apart, texts in quotes.
     pub fn change(&self, other: &Cell) -> Option<String> {
-        let (was, is) = (self.whole_text(), other.whole_text());
-        if was == is {
+        let absent = |cell: &Cell| matches!(cell, Cell::Absent);
+        if self.whole_text() == other.whole_text() && absent(self) == absent(other) {
             return None;
         }
-        Some(match (self, other) {
-            (Cell::Text(_), Cell::Text(_)) => format!("{} -> {}", json_string(&was), json_string(&is)),
-            _ if self.text() == other.text() => format!("{was} -> {is}"),
-            _ => format!("{} -> {}", self.text(), other.text()),
-        })
+        let short = |cell: &Cell| if let Cell::Text(text) = cell { json_string(text) } else { cell.text() };
+        let (was, is) = (short(self), short(other));
+        Some(if was == is { format!("{} -> {}", self.whole_text(), other.whole_text()) } else { format!("{was} -> {is}") })
     }
 
     pub fn csv(&self) -> String {

@@ -69,7 +69,7 @@ pub fn callsign_words(text: &str, refused: Refused) -> String {
     let foreign = text.get(refused.place..).and_then(|rest| rest.chars().next());
     match (refused.number, foreign) {
         (21, Some(c)) => format!("{c:?} is no character of a callsign: A to Z, 0 to 9, space, - / ."),
-        (20, _) => format!("a callsign has 1 to 9 characters, and not {}", text.len()),
+        (20, _) => format!("a callsign has 1 to 9 characters, and this {} bytes", text.len()),
         _ => refused.text().into(),
     }
 }

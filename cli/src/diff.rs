@@ -120,8 +120,7 @@ fn align_channels(a: &Records, b: &Records, contacts: &Aligned) -> Aligned {
 
 /// A record's fields in one line, but for its name.
 fn whole_record<R>(fields: &[Field<R>], record: &R, contacts: &[Contact]) -> String {
-    let shown = |field: &&Field<R>| field.is_compared() && field.option != "name";
-    let words = fields.iter().filter(shown).filter_map(|field| match (field.get)(record, contacts) {
+    let words = fields.iter().filter(|field| field.is_listed()).filter_map(|field| match (field.get)(record, contacts) {
         Cell::Absent => None,
         Cell::Text(text) if text.is_empty() => None,
         cell => Some(format!("{} {}", field.words(), cell.whole_text())),
@@ -143,25 +142,26 @@ fn fields_changed<R>(fields: &[Field<R>], a: In<R>, b: In<R>, whose: &str) -> Ve
 
 /// A channel that calls the same contact has not changed, whatever the contact's number or name.
 fn channel_changed(a: &Records, b: &Records, (i, j): (usize, usize), contacts: &Aligned) -> Vec<String> {
-    let ((old, was), (new, is)) = (without_contact(&a.channels[i]), without_contact(&b.channels[j]));
     let whose = label("channel", i, &a.channels[i].name);
-    let mut lines = fields_changed(CHANNEL, (&old, &[]), (&new, &[]), &whose);
-    let now = was.map(|was| contacts.to[usize::from(was)]);
-    if now != is.map(|is| Some(usize::from(is))) {
-        lines.push(format!("~ {whose}: contact: {}", calls_another(a, b, (was, now.flatten()), is)));
-    }
+    let mut lines = fields_changed(CHANNEL, (&a.channels[i], &[]), (&b.channels[j], &[]), &whose);
+    lines.extend(contact_changed(a, b, (i, j), contacts).map(|change| format!("~ {whose}: contact: {change}")));
     lines
 }
 
-/// A contact that is called, and another that is called in its place: by name or, where both have the same, by place too. The first one's
-/// place is A's, so it is said where B has it.
-fn calls_another(a: &Records, b: &Records, (was, now): (Option<u16>, Option<usize>), is: Option<u16>) -> String {
-    let (old, new) = (shown_contact(was, &a.contacts), shown_contact(is, &b.contacts));
-    if old.text() != new.text() {
-        return format!("{} -> {}", old.text(), new.text());
+/// The contact that a channel calls, and another in its place: by name or, where both have the same, by place too. The first one's place is
+/// A's, so it is said where B has it.
+fn contact_changed(a: &Records, b: &Records, (i, j): (usize, usize), contacts: &Aligned) -> Option<String> {
+    let (old, new) = (shown_contact(&a.channels[i], &a.contacts), shown_contact(&b.channels[j], &b.contacts));
+    let now = a.channels[i].info.contact().map(|was| contacts.to[usize::from(was)]);
+    let followed = now == b.channels[j].info.contact().map(|is| Some(usize::from(is)));
+    if followed && matches!(old, Cell::Absent) == matches!(new, Cell::Absent) {
+        return None;
     }
-    let moved = now.map_or("gone".into(), |now| format!("now {now}"));
-    format!("{}, {moved} -> {}", old.whole_text(), new.whole_text())
+    if old.text() != new.text() {
+        return Some(format!("{} -> {}", old.text(), new.text()));
+    }
+    let moved = now.flatten().map_or("gone".into(), |now| format!("now {now}"));
+    Some(format!("{}, {moved} -> {}", old.whole_text(), new.whole_text()))
 }
 
 fn bank_lines(a: &Records, b: &Records, channels: &Aligned) -> Vec<String> {

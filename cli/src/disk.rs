@@ -94,7 +94,8 @@ pub struct Prepared {
     at: PathBuf,
     path: PathBuf,
     file: File,
-    renamed: bool,
+    /// Whether what is at `at` is this file: it is locked there, and who knows of the lock leaves it.
+    own: bool,
 }
 
 impl Prepared {
@@ -127,8 +128,9 @@ impl Prepared {
                 Err(e) if e.kind() == io::ErrorKind::AlreadyExists => left(&at)?,
                 Err(e) => return Err(failed(e)),
                 Ok(file) => {
-                    let prepared = Prepared { at: at.clone(), path: path.into(), file, renamed: false };
-                    if prepared.lock().map_err(failed)? {
+                    let mut prepared = Prepared { at: at.clone(), path: path.into(), file, own: false };
+                    prepared.lock().map_err(failed)?;
+                    if prepared.own {
                         return Ok(prepared);
                     }
                 }
@@ -138,12 +140,13 @@ impl Prepared {
     }
 
     /// Locks it, unless somebody took it for left.
-    fn lock(&self) -> io::Result<bool> {
-        match self.file.try_lock() {
-            Ok(()) => same_file(&self.file, &self.at),
-            Err(TryLockError::WouldBlock) => Ok(false),
-            Err(TryLockError::Error(e)) => Err(e),
-        }
+    fn lock(&mut self) -> io::Result<()> {
+        self.own = match self.file.try_lock() {
+            Ok(()) => same_file(&self.file, &self.at)?,
+            Err(TryLockError::WouldBlock) => false,
+            Err(TryLockError::Error(e)) => return Err(e),
+        };
+        Ok(())
     }
 
     fn take_after(&mut self, like: &File) -> io::Result<()> {
@@ -163,7 +166,7 @@ impl Prepared {
     /// Puts it in FILE's place. It stays locked as long as it is held.
     pub fn rename(mut self) -> io::Result<Prepared> {
         fs::rename(&self.at, &self.path)?;
-        self.renamed = true;
+        self.own = false;
         Ok(self)
     }
 
@@ -179,22 +182,20 @@ impl Prepared {
     }
 }
 
-/// Removes a new file that nobody is writing any more: who does so has it locked.
+/// Removes a new file that nobody is writing any more: who does so has it locked. Gone meanwhile is as well.
 fn remove_unlocked(at: &Path) -> Done {
     let link = fs::symlink_metadata(at).is_ok_and(|found| found.is_symlink());
-    let _locked = match open_locked(OpenOptions::new().read(true), at, Lock::Alone, WAIT) {
-        Err(fail) if at.exists() && !link => return Err(fail),
-        other => other,
-    };
-    match fs::remove_file(at) {
-        Err(e) if e.kind() != io::ErrorKind::NotFound => Err(io_fail(at, &e)),
-        _ => Ok(()),
+    let locked = if link { None } else { Some(open_locked(OpenOptions::new().read(true), at, Lock::Alone, WAIT)) };
+    match (locked, at.exists()) {
+        (Some(Err(_)), false) => Ok(()),
+        (Some(Err(fail)), true) => Err(fail),
+        _ => fs::remove_file(at).map_err(|e| io_fail(at, &e)),
     }
 }
 
 impl Drop for Prepared {
     fn drop(&mut self) {
-        if !self.renamed {
+        if self.own {
             let _ = fs::remove_file(&self.at);
         }
     }

@@ -4,7 +4,7 @@ use crate::layout;
 use codeplug::{Channel, Codeplug, Contact, ContactInfo, EditAnswer, Info, Refused};
 
 /// There is no such place.
-pub const NO_PLACE: Refused = Refused { number: 33, place: 0 };
+const NO_PLACE: Refused = Refused { number: 33, place: 0 };
 
 pub enum Edit {
     InsertContact(usize, Contact),
@@ -123,7 +123,8 @@ impl Edit {
         let (Edit::InsertChannel(_, channel) | Edit::ReplaceChannel(_, channel)) = self else {
             let first = layout::contact_start(count.into());
             let caller = (refused.place - first.min(refused.place)) / codeplug::CHANNEL_SIZE;
-            return format!("{written}, mode: {} calls it, and goes on in its own", channel_of(codeplug, caller));
+            let own = codeplug.channel(caller).map_or("of another mode", |channel| if channel.info.mode() == 1 { "DMR" } else { "M17" });
+            return format!("{written}, mode: {} calls it, and is {own}", channel_of(codeplug, caller));
         };
         match channel.info.contact().unwrap_or(0) {
             contact if contact >= count => format!("{written}, contact: there is no contact {contact}: the codeplug has {count}"),
@@ -187,15 +188,15 @@ impl Edit {
     }
 }
 
-pub fn contact_of(codeplug: &Codeplug, n: usize) -> String {
+fn contact_of(codeplug: &Codeplug, n: usize) -> String {
     label("contact", n, &codeplug.contact(n).map(|contact| contact.name).unwrap_or_default())
 }
 
-pub fn channel_of(codeplug: &Codeplug, n: usize) -> String {
+fn channel_of(codeplug: &Codeplug, n: usize) -> String {
     label("channel", n, &codeplug.channel(n).map(|channel| channel.name).unwrap_or_default())
 }
 
-pub fn bank_of(codeplug: &Codeplug, n: usize) -> String {
+fn bank_of(codeplug: &Codeplug, n: usize) -> String {
     label("bank", n, &codeplug.bank(n).map(|bank| bank.name).unwrap_or_default())
 }
 

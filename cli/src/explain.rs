@@ -23,7 +23,7 @@ fn text_at(file: &[u8], at: usize) -> String {
     }
 }
 
-pub fn contact_label(file: &[u8], n: usize) -> String {
+fn contact_label(file: &[u8], n: usize) -> String {
     label("contact", n, &text_at(file, layout::contact_start(n)))
 }
 

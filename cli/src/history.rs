@@ -15,7 +15,7 @@ use crate::sha256::{from_hex, hex, sha256, Digest};
 use codeplug::{history_entries, Codeplug, FILE_MAX};
 
 /// The size of a new history, in bytes.
-pub const DEFAULT_SIZE: usize = 16 << 20;
+const DEFAULT_SIZE: usize = 16 << 20;
 /// The largest: it is held in memory.
 pub const LARGEST_SIZE: usize = 64 << 20;
 /// How many commands can be undone at the most.
@@ -101,7 +101,7 @@ impl History {
         (sha256(&file) == before).then_some(file)
     }
 
-    /// After a command. Where it does not fit, no command is left.
+    /// After a command, which fits the size.
     pub fn add(&mut self, command: Command) {
         self.commands.insert(0, command);
         self.keep();

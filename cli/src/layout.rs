@@ -46,7 +46,7 @@ fn at(fields: Fields, offset: usize) -> (usize, &'static str) {
     *fields.iter().rev().find(|(start, _)| *start <= offset).unwrap_or(&fields[0])
 }
 
-pub fn header_field(offset: usize) -> &'static str {
+fn header_field(offset: usize) -> &'static str {
     at(HEADER, offset).1
 }
 

@@ -41,7 +41,7 @@ fn main() -> ExitCode {
     let Err(fail) = done else { return ExitCode::SUCCESS };
     // What was printed before it failed; where that fails too, one line is enough.
     let _ = out.flush();
-    let known = if help::of(&verb).is_some() { &verb[..] } else { "" };
+    let known = if help::of(&verb).is_some() && verb != "help" { &verb[..] } else { "" };
     if let Some(line) = fail.line(known) {
         say(&line);
     }

@@ -42,7 +42,7 @@ const NO_UNDO: Refused = Refused { number: 38, place: 0 };
 const HISTORY_TOO_SMALL: &str = "what undo needs of this command does not fit the history (--history-size)";
 
 /// How long to wait for another codeplug.
-pub fn wait_of(args: &mut Args) -> Result<Duration, Fail> {
+fn wait_of(args: &mut Args) -> Result<Duration, Fail> {
     Ok(Duration::from_secs(args.number("wait", 86_400)?.unwrap_or(10) as u64))
 }
 
@@ -82,7 +82,9 @@ impl Session {
         let refused = |refused: Refused| refused_open(name, &file, refused);
         let records = Records::of(&file).map_err(refused)?;
         let codeplug = Codeplug::open(&file, FILE_MAX, 0).map_err(refused)?;
-        history.size = options.history_size.unwrap_or(history.size);
+        if stored.is_some() {
+            history.size = options.history_size.unwrap_or(history.size);
+        }
         let (name, batches) = (shown(name), Vec::new());
         Ok(Session { name, stored, options, history, codeplug, width: 0, last: 0, batches, file, records })
     }
@@ -155,7 +157,7 @@ impl Session {
 
     /// Takes the last commands back, and saves.
     pub fn undo(mut self, count: usize, out: &mut Out) -> Done {
-        let Some(stored) = &self.stored else { return usage("there is no history of standard input to undo") };
+        let Some(stored) = &self.stored else { return Err(self.refused(NO_UNDO, NO_UNDO.text())) };
         let there = self.history.commands.len();
         let undone = (0..count.min(there)).try_fold(self.file.clone(), |file, n| self.history.take_back(file, n));
         let (false, Some(file)) = (stored.has_foreign_history(), undone) else {

@@ -45,7 +45,11 @@ impl Stored {
         let (history, foreign) = match read_history(&beside(&path, ".history"))?.map(|stored| History::parse(&stored)) {
             None => (None, None),
             Some(None) => (None, Some(UNKNOWN)),
-            Some(Some(history)) => history.of_file(&file).map_or((None, Some(NOT_ITS_OWN)), |history| (Some(history), None)),
+            Some(Some(history)) => {
+                // A new history has the size of the one that it takes the place of.
+                let new = History { size: history.size, ..History::new(&file) };
+                history.of_file(&file).map_or((Some(new), Some(NOT_ITS_OWN)), |history| (Some(history), None))
+            }
         };
         let history = history.unwrap_or_else(|| History::new(&file));
         Ok((Stored { path, opened, locked, foreign }, file, history))
@@ -62,7 +66,7 @@ impl Stored {
     }
 
     fn foreign_line(&self) -> String {
-        format!("codeplug: {}: {}", beside(&self.path, ".history").display(), self.foreign.unwrap_or(NOT_ITS_OWN))
+        format!("codeplug: {}: {}", beside(&self.path, ".history").display(), self.foreign.unwrap_or(UNKNOWN))
     }
 
     /// Renames a history that does not belong to the file, and says so.

@@ -76,8 +76,8 @@ pub fn small(text: &str) -> Result<u8, String> {
     whole(text, 255).map(|n| n as u8).ok_or(format!("'{text}' is no number from 0 to 255"))
 }
 
-/// Whether a text is the word of a blank, off or none, in any letters.
-pub fn is_blank(text: &str, word: &str) -> bool {
+/// Whether a text is a word, as off or none, in any letters.
+pub fn is_word(text: &str, word: &str) -> bool {
     text.eq_ignore_ascii_case(word)
 }
 
@@ -92,7 +92,7 @@ pub fn without_unit<'a>(text: &'a str, unit: &str) -> &'a str {
 /// A number from 1, or none, which is stored as 0.
 pub fn list(text: &str) -> Result<u8, String> {
     match small(text) {
-        _ if is_blank(text, "none") => Ok(0),
+        _ if is_word(text, "none") => Ok(0),
         Ok(0) => Err("0 is no list; to be in none is asked for by 'none'".into()),
         Ok(n) => Ok(n),
         Err(_) => Err(format!("'{text}' is neither a number from 1 to 255 nor 'none'")),
@@ -109,7 +109,7 @@ pub fn address(text: &str) -> Result<u64, String> {
 
 /// Seconds since 1970, or the present time.
 pub fn timestamp(text: &str) -> Result<u64, String> {
-    if text == "now" {
+    if is_word(text, "now") {
         let now = std::time::SystemTime::now().duration_since(std::time::UNIX_EPOCH);
         return now.map(|since| since.as_secs()).map_err(|_| "the clock is before 1970".into());
     }

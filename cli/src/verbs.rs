@@ -120,8 +120,8 @@ fn set_contact(contact: &mut Contact, args: &mut Args, exists: bool) -> Result<V
     }
     let new = !exists || std::mem::discriminant(&contact.info) != mode;
     match contact.info {
-        ContactInfo::Dmr { .. } if new && !has("id") => usage("a new DMR contact needs its --id"),
-        ContactInfo::M17(_) if new && addresses == 0 => usage("a new M17 contact needs its --callsign, --address or --broadcast"),
+        ContactInfo::Dmr { .. } if new && !has("id") => usage("a DMR contact needs its --id"),
+        ContactInfo::M17(_) if new && addresses == 0 => usage("an M17 contact needs its --callsign, --address or --broadcast"),
         _ => Ok(given),
     }
 }
@@ -135,9 +135,10 @@ fn bank_name(args: &mut Args) -> Result<String, Fail> {
     }
 }
 
-/// That a new record has what it needs.
-fn needed(given: &[&str], options: &[&str], what: &str) -> Done {
-    match options.iter().find(|option| !given.contains(option)) {
+/// That a new record is given what it needs.
+fn needed(args: &Args, options: &[&str], what: &str) -> Done {
+    match options.iter().find(|option| !args.has(option)) {
+        Some(&"name") if args.has("no-name") => needed(args, &options[1..], what),
         Some(&"name") => usage(format!("a new {what} needs --name or --no-name")),
         Some(option) => usage(format!("a new {what} needs --{option}")),
         None => Ok(()),
@@ -166,9 +167,9 @@ pub fn add(mut args: Args, out: &mut Out) -> Done {
 
 fn new_contact_of(session: &Session, args: &mut Args, like: Option<String>) -> Result<Contact, Fail> {
     let Some(like) = like else {
+        needed(args, &["name", "mode"], "contact")?;
         let mut contact = new_contact();
-        let given = set_contact(&mut contact, args, false)?;
-        needed(&given, &["name", "mode"], "contact")?;
+        set_contact(&mut contact, args, false)?;
         return Ok(contact);
     };
     let mut contact = contact_at(session, which(session, "contact", &like)?)?;
@@ -179,9 +180,9 @@ fn new_contact_of(session: &Session, args: &mut Args, like: Option<String>) -> R
 fn new_channel_of(session: &Session, args: &mut Args, like: Option<String>) -> Result<Channel, Fail> {
     let contacts = &session.records.contacts;
     let Some(like) = like else {
+        needed(args, &["name", "mode", "receive-frequency"], "channel")?;
         let mut channel = new_channel();
         let given = fields::set(CHANNEL, &mut channel, args, contacts)?;
-        needed(&given, &["name", "mode", "receive-frequency"], "channel")?;
         if !given.contains(&"transmit-frequency") {
             channel.transmit_hz = channel.receive_hz;
         }
@@ -239,7 +240,11 @@ pub fn undo(mut args: Args, out: &mut Out) -> Done {
     if count == 0 {
         return usage("--count: 0 commands are nothing to undo");
     }
-    let session = open(&mut args)?;
+    let options = Options::of(&mut args)?;
+    let file = args.next("FILE")?;
     args.end("undo")?;
-    session.undo(count, out)
+    if file == "-" {
+        return usage("there is no history of standard input to undo");
+    }
+    Session::open(&file, options)?.undo(count, out)
 }

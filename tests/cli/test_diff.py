@@ -86,6 +86,32 @@ class SameNames(Diff):
         self.assertEqual(self.calls_of(change), ["~ channel 4 (Hill local): contact: 0 (Local), gone -> 0 (Local)"])
 
 
+class ModesAndContacts(Diff):
+    """A channel of another mode: its contact is told once."""
+
+    def contacts_told(self, *options):
+        self.ok("set", self.club, *options)
+        return [line for line in self.ok("diff", self.write("a", build(example())), self.club).splitlines() if ": contact: " in line]
+
+    def test_to_fm(self):
+        self.assertEqual(self.contacts_told("channel", "4", "--mode", "fm"), ["~ channel 4 (Hill local): contact: Local -> -"])
+
+    def test_to_m17(self):
+        self.assertEqual(self.contacts_told("channel", "4", "--mode", "m17"), ["~ channel 4 (Hill local): contact: Local -> none"])
+
+    def test_from_fm(self):
+        self.assertEqual(self.contacts_told("channel", "0", "--mode", "dmr", "--contact", "1"), ["~ channel 0 (Hill): contact: - -> Regional"])
+
+    def test_from_fm_to_nobody(self):
+        self.assertEqual(self.contacts_told("channel", "0", "--mode", "dmr"), ["~ channel 0 (Hill): contact: - -> none"])
+
+    def test_a_contact_named_as_nothing(self):
+        self.ok("rename", self.club, "contact", "0", "None")
+        self.assertEqual(self.contacts_told("channel", "4", "--contact", "NONE"), ["~ channel 4 (Hill local): contact: Local -> none"])
+        self.ok("undo", self.club)
+        self.assertIn("contact 0", self.ok("show", self.club, "channels"))
+
+
 class Fields(Diff):
     def test_a_channels_field(self):
         self.assertEqual(self.changed("channels", 0, {"transmit_tone": (True, 8)}), ["~ channel 0 (Hill): transmit tone: 71.9 -> 88.5"])

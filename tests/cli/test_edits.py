@@ -341,6 +341,10 @@ class Add(Edits):
         like = {k: v for k, v in example()["channels"][0].items() if not k.endswith("tone")}
         self.adds("channel", 10, like | {"mode": "dmr"} | DMR_INFO, "--like", "0", "--mode", "dmr")
 
+    def test_the_mode_is_asked_for_first(self):
+        for args in (["contact", "--name", "x", "--callsign", "AB"], ["contact", "--name", "x"], ["channel", "--no-name", "--slot", "1"]):
+            self.assertIn(f"a new {args[0]} needs --mode", self.usage("add", self.club, *args))
+
     def test_into_an_empty_codeplug(self):
         plug = parse(EMPTY)
         plug["banks"] = [{"name": "First", "entries": []}]

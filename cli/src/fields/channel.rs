@@ -2,7 +2,7 @@
 use super::Shown::{self, Alone, InTables, Never};
 use super::{put, Fault, Field, Set, Setter};
 use crate::cell::Cell;
-use crate::values::{self, degrees_text, is_blank, small, without_unit, word};
+use crate::values::{self, degrees_text, is_word, small, without_unit, word};
 use crate::which::place_of;
 use codeplug::{tone_index, Channel, Contact, ContactInfo, Info, Tone};
 
@@ -63,7 +63,7 @@ macro_rules! by_mode {
                 let mode = c.info.mode();
                 match &mut c.info {
                     $(Info::$mode { $field, .. })|+ => put($field, $set(text, (mode, *$field, contacts))?),
-                    _ if is_blank(text, $blank) => Ok(()),
+                    _ if is_word(text, $blank) => Ok(()),
                     other => none_of(other),
                 }
             }),
@@ -112,17 +112,19 @@ fn set_number(text: &str, _: Known<u8>) -> Result<u8, String> {
 fn set_tone(text: &str, (_, tone, _): Known<Tone>) -> Result<Tone, String> {
     let index = |hertz: &str| {
         let tenths = values::fixed(without_unit(hertz, "Hz"), 1).and_then(|tenths| u16::try_from(tenths).ok());
-        tenths.and_then(tone_index).ok_or(format!("'{hertz}' is no tone of the table ('codeplug tone' lists it), nor 'off'"))
+        tenths.and_then(tone_index).ok_or(format!("'{hertz}' is no tone of the table: 'codeplug tone' lists it, and 'off' is none"))
     };
     match text.split_once(':') {
-        Some((off, kept)) if is_blank(off, "off") => index(kept).map(Tone::Disabled),
-        None if is_blank(text, "off") => Ok(Tone::Disabled(tone.index())),
+        Some((off, kept)) if is_word(off, "off") => index(kept).map(Tone::Disabled),
+        None if is_word(text, "off") => Ok(Tone::Disabled(tone.index())),
         _ => index(text).map(Tone::Enabled),
     }
 }
 
-pub fn shown_contact(contact: Option<u16>, contacts: &[Contact]) -> Cell {
-    match contact {
+/// The contact that a channel calls.
+pub fn shown_contact(channel: &Channel, contacts: &[Contact]) -> Cell {
+    match channel.info.contact() {
+        _ if channel.info.mode() == 0 => Cell::Absent,
         None => Cell::Blank("none"),
         Some(place) => Cell::Contact(place, contacts.get(usize::from(place)).map_or(String::new(), |c| c.name.clone())),
     }
@@ -130,7 +132,7 @@ pub fn shown_contact(contact: Option<u16>, contacts: &[Contact]) -> Cell {
 
 /// A contact by its place or its name, among those of the channel's mode first; whether it may be called, the library says.
 fn set_contact(text: &str, (mode, _, contacts): Known<Option<u16>>) -> Result<Option<u16>, String> {
-    if is_blank(text, "none") {
+    if is_word(text, "none") {
         return Ok(None);
     }
     let of_mode = |c: &&Contact| matches!(c.info, ContactInfo::Dmr { .. }) == (mode == 1);
@@ -253,7 +255,10 @@ pub static CHANNEL: &[Field<Channel>] = &[
         ("position", "position", "position", Alone),
         by_mode!(position: M17, |on, _| Cell::Flag(on, OFF_ON), |text, _: Known<bool>| word(text, &OFF_ON).map(|on| on == 1)),
     ),
-    field(("contact", "contact", "contact", InTables), by_mode!(contact: Dmr | M17, shown_contact, set_contact, "none")),
+    field(
+        ("contact", "contact", "contact", InTables),
+        (shown_contact, by_mode!(contact: Dmr | M17, |_, _| Cell::Absent, set_contact, "none").1),
+    ),
     field(
         ("contact_name", "", "", Never),
         (

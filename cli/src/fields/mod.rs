@@ -75,9 +75,14 @@ impl<R> Field<R> {
         self.option.replace('-', " ")
     }
 
-    /// Whether it differs by itself from another record's.
+    /// Whether it differs by itself from another record's. A contact that is called does not: its number may move.
     pub fn is_compared(&self) -> bool {
-        !self.option.is_empty() && self.shown != Shown::Again
+        !self.option.is_empty() && self.shown != Shown::Again && self.option != "contact"
+    }
+
+    /// Whether a record in one line has it: all that `set` sets, once, but the name.
+    pub fn is_listed(&self) -> bool {
+        !self.option.is_empty() && self.shown != Shown::Again && self.option != "name"
     }
 }
 
