@@ -1,6 +1,7 @@
 //! The library beside another build of it, both loaded from their files and called in turn: what a change of the code costs.
 
 use crate::batch::Batch;
+use crate::files::Settings;
 use crate::library::Library;
 use crate::makers::Maker;
 use crate::table::{addresses, learnt, rows, Row};
@@ -14,12 +15,12 @@ const SLOWER: f64 = 1.05;
 /// One figure of the table: its name and, of each round, both times.
 type Figure = (String, Vec<[f64; 2]>);
 
-/// A table's rows as single figures.
+/// A table's rows as single figures. A library from before version 2.0.0 has the legacy reading alone, so the files are valid by both.
 fn figures(makers: [Maker; 2]) -> Vec<(String, [f64; 2])> {
-    let batches = [Batch::whole(64 << 10), Batch::whole(1 << 20)];
+    let batches = [64 << 10, 1 << 20].map(|size| Batch::whole(size, Settings::Zero));
     let parts: [(&[&str], Vec<Row<2>>); 3] = [
         (&["64 KiB", "1 MiB"], rows(&batches, makers, |_| true)),
-        (&["learnt"], learnt(makers)),
+        (&["learnt"], learnt(makers, Settings::Zero)),
         (&["ns per call"], addresses(makers)),
     ];
     let of_part = |(sizes, rows): (&[&str], Vec<Row<2>>)| -> Vec<_> {

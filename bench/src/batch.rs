@@ -1,27 +1,32 @@
 //! A batch: different files of one size, 1 MiB together, so that every size meets the same caches and branch predictor.
 
 use crate::cases::{self, Case};
-use crate::files;
+use crate::files::{self, Settings};
 use crate::makers::{Buffer, Maker, Set, MAKERS};
 use crate::timing::{medians, Timed};
 use obcf_second::edit::Edit;
+use obcf_second::sample;
 
 pub const WHOLE: usize = 1 << 20;
 
 pub struct Batch {
     pub sets: Vec<Set>,
+    settings: Settings,
 }
 
 impl Batch {
     /// As many files of a size as make 1 MiB.
-    pub fn whole(size: usize) -> Batch {
-        Batch::new(size, WHOLE / size)
+    pub fn whole(size: usize, settings: Settings) -> Batch {
+        Batch::new(size, WHOLE / size, settings)
     }
 
     /// So many files of a size, each in a room of that size, and each with a history of sixteen earlier edits in twice that size.
-    pub fn new(size: usize, files: usize) -> Batch {
-        let sets = (0..files).map(|seed| opened(size, seed as u64)).collect();
-        Batch { sets }
+    pub fn new(size: usize, files: usize, settings: Settings) -> Batch {
+        let sets = (0..files).map(|seed| opened(size, seed as u64, settings));
+        Batch {
+            sets: sets.collect(),
+            settings,
+        }
     }
 
     pub fn bytes(&self) -> usize {
@@ -30,9 +35,10 @@ impl Batch {
 
     /// The edits by case, and in each case by file.
     pub fn cases(&self) -> Vec<(Case, Vec<Edit>)> {
-        let by_file: Vec<Vec<Case>> = self.sets.iter().map(|set| cases::all(set.file())).collect();
+        let all = |set: &Set| cases::all(set.file(), self.settings);
+        let by_file: Vec<Vec<Case>> = self.sets.iter().map(all).collect();
         let edits = |n: usize| by_file.iter().map(|cases| cases[n].edit.clone()).collect();
-        cases::all(self.sets[0].file())
+        all(&self.sets[0])
             .into_iter()
             .enumerate()
             .map(|(n, case)| (case, edits(n)))
@@ -47,7 +53,23 @@ impl Batch {
             .zip(edits)
             .map(|(set, edit)| made(makers, set, Some(edit)))
             .collect();
-        Batch { sets }
+        Batch { sets, ..*self }
+    }
+
+    /// The files in the legacy order. Some makers migrate each first, which has to give back the file.
+    pub fn legacy(&self, makers: &[Maker]) -> Vec<Vec<u8>> {
+        let legacy = self.sets.iter().map(|set| {
+            let mut file = set.file().to_vec();
+            sample::to_legacy(&mut file);
+            for maker in makers {
+                let mut copy = file.clone();
+                let answer = maker.migrate(&mut copy).expect("accepted");
+                let counts = maker.validate(set.file()).expect("accepted");
+                assert!(answer == counts && copy == set.file(), "they differ");
+            }
+            file
+        });
+        legacy.collect()
     }
 
     /// Tries an undo in each file.
@@ -74,13 +96,13 @@ pub fn per_byte<'a, T: Timed, const N: usize>(
         .collect()
 }
 
-fn opened(size: usize, seed: u64) -> Set {
-    let file = files::typical(size, seed);
+fn opened(size: usize, seed: u64, settings: Settings) -> Set {
+    let file = files::typical(size, seed, settings);
     let mut set = Set {
         room: Buffer::new(&file, size),
         past: Buffer::new(&[], 2 * size),
     };
-    for edit in cases::earlier(&file) {
+    for edit in cases::earlier(&file, settings) {
         set = made(&MAKERS, &set, Some(&edit));
     }
     set

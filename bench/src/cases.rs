@@ -1,6 +1,6 @@
 //! The edits that are timed: every kind, at the front, the middle and the end of its list.
 
-use crate::files;
+use crate::files::{self, Settings};
 use obcf_second::edit::Edit;
 use obcf_second::sample::{self, Rng};
 
@@ -43,10 +43,10 @@ fn entry_counts(file: &[u8]) -> Vec<usize> {
     counts
 }
 
-fn record(rng: &mut Rng, kind: usize) -> Vec<u8> {
+fn record(rng: &mut Rng, kind: usize, settings: Settings) -> Vec<u8> {
     match kind {
-        1 | 3 => sample::contact_bytes(&files::contact(rng)),
-        4 | 6 => sample::channel_bytes(&files::channel(rng, &[])),
+        1 | 3 => sample::contact_bytes(&files::contact(rng, settings)),
+        4 | 6 => sample::channel_bytes(&files::channel(rng, &[], settings)),
         7 | 9 => files::text(rng, 16),
         10 => vec![1, 0],
         12 => [files::text(rng, 16), files::text(rng, 32), rng.bytes(8)].concat(),
@@ -55,7 +55,7 @@ fn record(rng: &mut Rng, kind: usize) -> Vec<u8> {
 }
 
 /// All edits of a file, in the order of their kinds.
-pub fn all(file: &[u8]) -> Vec<Case> {
+pub fn all(file: &[u8], settings: Settings) -> Vec<Case> {
     let rng = &mut Rng::new(12);
     let [contacts, channels, banks] = [82, 84, 86].map(|at| u16_at(file, at));
     let entries = entry_counts(file);
@@ -88,7 +88,7 @@ pub fn all(file: &[u8]) -> Vec<Case> {
                     kind: kind as u64,
                     first,
                     second,
-                    record: record(rng, kind),
+                    record: record(rng, kind, settings),
                 },
             });
         }
@@ -97,7 +97,7 @@ pub fn all(file: &[u8]) -> Vec<Case> {
 }
 
 /// Small edits made before: what the history holds when a case begins.
-pub fn earlier(file: &[u8]) -> Vec<Edit> {
+pub fn earlier(file: &[u8], settings: Settings) -> Vec<Edit> {
     let rng = &mut Rng::new(16);
     let channels = u16_at(file, 84);
     (0..16)
@@ -105,7 +105,7 @@ pub fn earlier(file: &[u8]) -> Vec<Edit> {
             kind: 6,
             first: rng.below(channels),
             second: 0,
-            record: record(rng, 6),
+            record: record(rng, 6, settings),
         })
         .collect()
 }

@@ -2,11 +2,18 @@
 //!
 //! The first, middle and last contact are named by no channel, and those channels stand in no bank, so that they can be removed.
 
-use obcf_second::record::{Channel, Contact, Mode};
+use obcf_second::record::{Channel, Contact, ContactInfo, Mode};
 use obcf_second::sample::{self, Rng};
 
 /// Bytes left free below the size, so that an insertion stays within it.
 pub const SPARE: usize = 256;
+
+/// The traits of channels and the settings of contacts. Files and records in which all are zero are valid by the legacy reading too.
+#[derive(Clone, Copy, PartialEq)]
+pub enum Settings {
+    Any,
+    Zero,
+}
 
 /// The first, the middle and the last of a list.
 pub fn three(count: usize) -> [usize; 3] {
@@ -14,7 +21,7 @@ pub fn three(count: usize) -> [usize; 3] {
 }
 
 /// A valid file of `size - SPARE` bytes, 16 KiB or more. The seed changes its records, and none of its counts.
-pub fn typical(size: usize, seed: u64) -> Vec<u8> {
+pub fn typical(size: usize, seed: u64, settings: Settings) -> Vec<u8> {
     let rng = &mut Rng::new(seed);
     let length = size - SPARE;
     // 60 contacts at 16 KiB, twice as many at four times the size: 480 at 1 MiB.
@@ -25,7 +32,7 @@ pub fn typical(size: usize, seed: u64) -> Vec<u8> {
     // What is left over goes into the last bank.
     let left = (length - fixed - 90 * channels) / 2;
 
-    let made: Vec<Contact> = (0..contacts).map(|_| contact(rng)).collect();
+    let made: Vec<Contact> = (0..contacts).map(|_| contact(rng, settings)).collect();
     let free = three(contacts);
     let named: Vec<(u16, Mode)> = (0..contacts)
         .filter(|n| !free.contains(n))
@@ -37,7 +44,7 @@ pub fn typical(size: usize, seed: u64) -> Vec<u8> {
         file.extend(sample::contact_bytes(contact));
     }
     for _ in 0..channels {
-        file.extend(sample::channel_bytes(&channel(rng, &named)));
+        file.extend(sample::channel_bytes(&channel(rng, &named, settings)));
     }
     add_banks(&mut file, rng, banks, left, channels);
     assert_eq!(file.len(), length);
@@ -92,19 +99,32 @@ fn name(rng: &mut Rng, most: usize) -> Vec<u8> {
     (0..length).map(|_| 0x20 + rng.below(0x5F) as u8).collect()
 }
 
-pub fn contact(rng: &mut Rng) -> Contact {
+pub fn contact(rng: &mut Rng, settings: Settings) -> Contact {
     let mut made = sample::contact(rng);
     made.name = name(rng, 16);
+    if let ContactInfo::Dmr {
+        contact_type,
+        rx_tone,
+        ..
+    } = &mut made.info
+    {
+        if settings == Settings::Zero {
+            (*contact_type, *rx_tone) = (0, false);
+        }
+    }
     made
 }
 
 /// A channel of any of the three modes; three in four of DMR and M17 name a contact.
-pub fn channel(rng: &mut Rng, named: &[(u16, Mode)]) -> Channel {
+pub fn channel(rng: &mut Rng, named: &[(u16, Mode)], settings: Settings) -> Channel {
     let mut made = sample::channel(rng, |rng, mode| {
         let fitting: Vec<u16> = named.iter().filter(|c| c.1 == mode).map(|c| c.0).collect();
         (!fitting.is_empty() && !rng.one_in(4)).then(|| rng.pick(&fitting))
     });
     made.name = name(rng, 16);
     made.description = name(rng, 32);
+    if settings == Settings::Zero {
+        (made.bandwidth, made.receive_only) = (0, false);
+    }
     made
 }

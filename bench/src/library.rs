@@ -1,5 +1,5 @@
 //! A build of the library loaded from its file, libcodeplug.so: the functions that are timed. They have to be those of this
-//! bindings/c/include/codeplug.h, or the same under their former names.
+//! bindings/c/include/codeplug.h, or the same under their former names. A library from before version 2.0.0 has none for legacy files.
 
 use codeplug::c;
 use std::ffi::{c_char, c_int, c_void, CStr, CString};
@@ -51,14 +51,19 @@ fn symbol(library: *mut c_void, name: &str) -> *mut c_void {
 }
 
 macro_rules! functions {
-    ($($name:ident($($type:ty),*) -> $answer:ty;)*) => {
+    (
+        always { $($name:ident($($type:ty),*) -> $answer:ty;)* }
+        maybe { $($maybe:ident($($maybe_type:ty),*) -> $maybe_answer:ty;)* }
+    ) => {
         pub struct Library {
-            $(pub $name: unsafe extern "C" fn($($type),*) -> $answer),*
+            $(pub $name: unsafe extern "C" fn($($type),*) -> $answer,)*
+            $(pub $maybe: Option<unsafe extern "C" fn($($maybe_type),*) -> $maybe_answer>,)*
         }
 
         /// The library that the program is linked with.
         pub static LINKED: Library = Library {
-            $($name: c::$name),*
+            $($name: c::$name,)*
+            $($maybe: Some(c::$maybe),)*
         };
 
         impl Library {
@@ -69,7 +74,10 @@ macro_rules! functions {
                 Box::leak(Box::new(Library {
                     $($name: unsafe {
                         transmute::<*mut c_void, unsafe extern "C" fn($($type),*) -> $answer>(symbol(library, stringify!($name)))
-                    }),*
+                    },)*
+                    $($maybe: find(library, stringify!($maybe)).map(|found| unsafe {
+                        transmute::<*mut c_void, unsafe extern "C" fn($($maybe_type),*) -> $maybe_answer>(found)
+                    }),)*
                 }))
             }
         }
@@ -77,13 +85,19 @@ macro_rules! functions {
 }
 
 functions! {
-    codeplug_validate(*const u8, usize) -> c::ValidateAnswer;
-    codeplug_contact_prevalidated(*const u8, usize, usize, *mut u8, usize) -> c::ContactAnswer;
-    codeplug_channel_prevalidated(*const u8, usize, usize, *mut u8, usize) -> c::ChannelAnswer;
-    codeplug_bank_prevalidated(*const u8, usize, usize, *mut u8, usize) -> c::BankAnswer;
-    codeplug_bank_entry_prevalidated(*const u8, usize, usize, usize) -> c::BankEntryAnswer;
-    codeplug_encode_callsign(*const u8, usize) -> c::EncodeAnswer;
-    codeplug_decode_address(u64, *mut u8, usize) -> c::DecodeAnswer;
-    codeplug_edit(*mut u8, usize, usize, *mut u8, usize, usize, usize, usize, usize, *const u8, usize) -> c::EditAnswer;
-    codeplug_undo(*mut u8, usize, usize, *mut u8, usize, usize) -> c::EditAnswer;
+    always {
+        codeplug_validate(*const u8, usize) -> c::ValidateAnswer;
+        codeplug_contact_prevalidated(*const u8, usize, usize, *mut u8, usize) -> c::ContactAnswer;
+        codeplug_channel_prevalidated(*const u8, usize, usize, *mut u8, usize) -> c::ChannelAnswer;
+        codeplug_bank_prevalidated(*const u8, usize, usize, *mut u8, usize) -> c::BankAnswer;
+        codeplug_bank_entry_prevalidated(*const u8, usize, usize, usize) -> c::BankEntryAnswer;
+        codeplug_encode_callsign(*const u8, usize) -> c::EncodeAnswer;
+        codeplug_decode_address(u64, *mut u8, usize) -> c::DecodeAnswer;
+        codeplug_edit(*mut u8, usize, usize, *mut u8, usize, usize, usize, usize, usize, *const u8, usize) -> c::EditAnswer;
+        codeplug_undo(*mut u8, usize, usize, *mut u8, usize, usize) -> c::EditAnswer;
+    }
+    maybe {
+        codeplug_validate_legacy(*const u8, usize) -> c::ValidateAnswer;
+        codeplug_migrate(*mut u8, usize) -> c::ValidateAnswer;
+    }
 }

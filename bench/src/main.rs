@@ -23,10 +23,11 @@ fn main() {
     let number = |word: &str| word.parse().expect("a number");
     match words[..] {
         [] => table::print(),
+        ["files"] => table::print_files(|_| false),
         ["addresses"] => table::print_addresses(),
         ["against", this, other] => against::print(this, other),
         ["plot", path] => plot::write(path),
         ["profile", maker, what, kind, times] => profile::run(maker, what, number(kind), number(times)),
-        _ => eprintln!("usage: bench/run [addresses | against THIS.so OTHER.so | plot FILE.svg | profile proved|second|lean validate|read|edit|undo KIND TIMES]"),
+        _ => eprintln!("usage: bench/run [files | addresses | against THIS.so OTHER.so | plot FILE.svg | profile proved|second|lean validate|validate-legacy|migrate|read|edit|undo KIND TIMES]"),
     }
 }

@@ -4,7 +4,7 @@ use crate::lean;
 use crate::library::{Library, LINKED};
 use codeplug::c;
 use obcf_second::edit::{Answer, Edit};
-use obcf_second::Refusal;
+use obcf_second::{Counts, Refusal};
 
 #[derive(Clone, Copy)]
 pub enum Maker {
@@ -75,6 +75,20 @@ fn answer(a: c::EditAnswer) -> Result<Answer, Refusal> {
     }
 }
 
+fn validated(a: c::ValidateAnswer) -> Result<Counts, Refusal> {
+    match a.number {
+        0 => Ok(Counts {
+            contacts: a.contacts,
+            channels: a.channels,
+            banks: a.banks,
+        }),
+        number => Err(Refusal {
+            number,
+            place: a.place,
+        }),
+    }
+}
+
 impl Maker {
     pub fn edit(self, set: &mut Set, edit: &Edit) -> Result<Answer, Refusal> {
         let (length, used) = (set.room.length, set.past.length);
@@ -120,21 +134,43 @@ impl Maker {
         }
     }
 
-    pub fn validate(self, file: &[u8]) -> Result<[u16; 3], Refusal> {
-        let counts = match self {
+    pub fn validate(self, file: &[u8]) -> Result<Counts, Refusal> {
+        match self {
             Maker::Proved(library) => {
-                let a = unsafe { (library.codeplug_validate)(file.as_ptr(), file.len()) };
-                return match a.number {
-                    0 => Ok([a.contacts, a.channels, a.banks]),
-                    number => Err(Refusal {
-                        number,
-                        place: a.place,
-                    }),
-                };
+                validated(unsafe { (library.codeplug_validate)(file.as_ptr(), file.len()) })
             }
-            Maker::Second => obcf_second::codeplug::validate(file)?,
-            Maker::Lean => lean::validate::validate(file)?,
-        };
-        Ok([counts.contacts, counts.channels, counts.banks])
+            Maker::Second => obcf_second::codeplug::validate(file),
+            Maker::Lean => lean::validate::validate(file),
+        }
+    }
+
+    /// Whether it has the next two, which a library from before version 2.0.0 has not.
+    pub fn reads_legacy(self) -> bool {
+        match self {
+            Maker::Proved(library) => library.codeplug_migrate.is_some(),
+            _ => true,
+        }
+    }
+
+    pub fn validate_legacy(self, file: &[u8]) -> Result<Counts, Refusal> {
+        match self {
+            Maker::Proved(library) => {
+                let validate = library.codeplug_validate_legacy.expect("it reads legacy");
+                validated(unsafe { validate(file.as_ptr(), file.len()) })
+            }
+            Maker::Second => obcf_second::legacy::validate_legacy(file),
+            Maker::Lean => lean::validate::validate_legacy(file),
+        }
+    }
+
+    pub fn migrate(self, file: &mut [u8]) -> Result<Counts, Refusal> {
+        match self {
+            Maker::Proved(library) => {
+                let migrate = library.codeplug_migrate.expect("it reads legacy");
+                validated(unsafe { migrate(file.as_mut_ptr(), file.len()) })
+            }
+            Maker::Second => obcf_second::legacy::migrate(file),
+            Maker::Lean => lean::migrate::migrate(file),
+        }
     }
 }

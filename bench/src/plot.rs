@@ -1,6 +1,7 @@
 //! The plot of time against file size, as an SVG.
 
 use crate::batch::{per_byte, Batch};
+use crate::files::Settings;
 use crate::makers::{Maker, MAKERS};
 use crate::work::{Calling, Validating};
 use obcf_second::edit::Edit;
@@ -14,7 +15,7 @@ const PANELS: [&str; 3] = ["validate", "edit: insert a channel", "undo of that e
 type Point = (f64, [f64; 3]);
 
 fn measure() -> [Vec<Point>; 3] {
-    let batches = KIB.map(|kib| Batch::whole(kib << 10));
+    let batches = KIB.map(|kib| Batch::whole(kib << 10, Settings::Any));
     let edits: Vec<Vec<Edit>> = batches.iter().map(channel_inserted).collect();
     let edited: Vec<Batch> = batches
         .iter()

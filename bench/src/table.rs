@@ -1,9 +1,12 @@
 //! The table of times.
 
 use crate::batch::{per_byte, Batch};
+use crate::files::Settings;
 use crate::makers::{Maker, MAKERS};
 use crate::timing::medians;
-use crate::work::{Calling, Decoding, Encoding, Listing, Reading, Validating};
+use crate::work::{
+    Calling, Decoding, Encoding, Listing, Migrating, Reading, Validating, ValidatingLegacy,
+};
 use obcf_second::address::number_to_text;
 use obcf_second::edit::Edit;
 use obcf_second::sample::{self, Rng};
@@ -31,6 +34,25 @@ fn reading<const N: usize>(batches: &[Batch], makers: [Maker; N]) -> Vec<Row<N>>
         ("validate".to_string(), validate),
         ("validate, beside a reader".to_string(), list),
         ("read every record".to_string(), read),
+    ]
+}
+
+/// Of legacy files, where all makers read them.
+fn legacy<const N: usize>(batches: &[Batch], makers: [Maker; N]) -> Vec<Row<N>> {
+    if !makers.iter().all(|maker| maker.reads_legacy()) {
+        return Vec::new();
+    }
+    let files: Vec<_> = batches.iter().map(|batch| batch.legacy(&makers)).collect();
+    let validate = per_byte(RUNS, batches, makers, |n, _, maker| ValidatingLegacy {
+        maker,
+        files: &files[n],
+    });
+    let migrate = per_byte(RUNS, batches, makers, |n, _, maker| {
+        Migrating::new(maker, &files[n])
+    });
+    vec![
+        ("validate legacy".to_string(), validate),
+        ("migrate".to_string(), migrate),
     ]
 }
 
@@ -65,6 +87,7 @@ pub fn rows<const N: usize>(
     chosen: impl Fn(&str) -> bool,
 ) -> Vec<Row<N>> {
     let mut rows = reading(batches, makers);
+    rows.extend(legacy(batches, makers));
     let cases: Vec<_> = batches.iter().map(Batch::cases).collect();
     let mut undos = Vec::new();
     for (n, (case, _)) in cases[0].iter().enumerate() {
@@ -80,8 +103,8 @@ pub fn rows<const N: usize>(
 }
 
 /// One file of 64 KiB again and again, which caches and branch predictor learn.
-pub fn learnt<const N: usize>(makers: [Maker; N]) -> Vec<Row<N>> {
-    rows(&[Batch::new(64 << 10, 1)], makers, |name| {
+pub fn learnt<const N: usize>(makers: [Maker; N], settings: Settings) -> Vec<Row<N>> {
+    rows(&[Batch::new(64 << 10, 1, settings)], makers, |name| {
         name == " 6 replace channel middle"
     })
 }
@@ -130,12 +153,9 @@ pub fn print_addresses() {
     }
 }
 
-pub fn print() {
-    let rows = rows(
-        &[Batch::whole(64 << 10), Batch::whole(1 << 20)],
-        MAKERS,
-        |_| true,
-    );
+/// The table's first part: of everything, or with the edits alone that `chosen` names.
+pub fn print_files(chosen: impl Fn(&str) -> bool) {
+    let batches = [64 << 10, 1 << 20].map(|size| Batch::whole(size, Settings::Any));
     let group = "proved second   lean    /s    /l";
     println!(
         "{:30} | {:^32} | {:^32} | {:^20}",
@@ -143,7 +163,7 @@ pub fn print() {
     );
     println!("{:30} | {group} | {group} | proved second   lean", "");
     println!("{}", "-".repeat(123));
-    for (name, times) in rows {
+    for (name, times) in rows(&batches, MAKERS, chosen) {
         let (small, large) = (times[0], times[1]);
         let growth = [0, 1, 2].map(|n| format!("{:6.2}", large[n] / small[n]));
         println!(
@@ -153,8 +173,12 @@ pub fn print() {
             growth.join(" ")
         );
     }
+}
+
+pub fn print() {
+    print_files(|_| true);
     println!("\n{:30} | {:^32} |", "", "one file of 64 KiB, learnt");
-    for (name, times) in learnt(MAKERS) {
+    for (name, times) in learnt(MAKERS, Settings::Any) {
         println!("{name:30} | {} |", cells(times[0], 3));
     }
     println!();

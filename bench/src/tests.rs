@@ -31,6 +31,39 @@ fn validation_agrees() {
 }
 
 #[test]
+fn migration_agrees() {
+    let rng = &mut Rng::new(3);
+    let mut accepted = 0;
+    for _ in 0..20_000 {
+        let mut file = sample::legacy_file(rng, SHAPE);
+        let spans = sample::legacy_file_spans(&file);
+        let limits = Limits::of_file(&file);
+        for _ in 0..rng.below(3) {
+            let span = rng.pick(&spans);
+            sample::spoil(rng, &mut file, span, limits);
+        }
+        if rng.one_in(8) {
+            file.truncate(rng.below(file.len() + 1));
+        }
+        let [a, b, c] = MAKERS.map(|maker| maker.validate_legacy(&file));
+        assert!(a == b && b == c, "{a:?} {b:?} {c:?}");
+        let [d, e, f] = MAKERS.map(|maker| {
+            let mut copy = file.clone();
+            (maker.migrate(&mut copy), copy)
+        });
+        assert!(
+            d == e && e == f && d.0 == a,
+            "{:?} {:?} {:?}",
+            d.0,
+            e.0,
+            f.0
+        );
+        accepted += usize::from(a.is_ok());
+    }
+    assert!(accepted > 5_000, "{accepted}");
+}
+
+#[test]
 fn calls_agree() {
     let rng = &mut Rng::new(2);
     let mut accepted = 0;

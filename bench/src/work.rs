@@ -85,6 +85,51 @@ fn read_proved(c: &Library, file: &[u8]) {
     }
 }
 
+/// Legacy files.
+pub struct ValidatingLegacy<'a> {
+    pub maker: Maker,
+    pub files: &'a [Vec<u8>],
+}
+
+impl Timed for ValidatingLegacy<'_> {
+    fn call(&mut self) {
+        for file in self.files {
+            black_box(self.maker.validate_legacy(black_box(file))).expect("accepted");
+        }
+    }
+}
+
+/// Migrates legacy files, each on a fresh copy.
+pub struct Migrating<'a> {
+    maker: Maker,
+    files: &'a [Vec<u8>],
+    copies: Vec<Vec<u8>>,
+}
+
+impl<'a> Migrating<'a> {
+    pub fn new(maker: Maker, files: &'a [Vec<u8>]) -> Self {
+        Migrating {
+            maker,
+            files,
+            copies: files.to_vec(),
+        }
+    }
+}
+
+impl Timed for Migrating<'_> {
+    fn ready(&mut self) {
+        for (copy, file) in self.copies.iter_mut().zip(self.files) {
+            copy.copy_from_slice(file);
+        }
+    }
+
+    fn call(&mut self) {
+        for copy in &mut self.copies {
+            black_box(self.maker.migrate(black_box(copy))).expect("accepted");
+        }
+    }
+}
+
 /// An edit of each file, or an undo where there is none, on fresh copies of both buffers.
 pub struct Calling<'a> {
     maker: Maker,

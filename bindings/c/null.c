@@ -17,6 +17,8 @@ static void no_file(void)
 {
     printf("no file:");
     PRINT_ANSWER("validate", codeplug_validate(NULL, 0));
+    PRINT_ANSWER("validate_legacy", codeplug_validate_legacy(NULL, 0));
+    PRINT_ANSWER("migrate", codeplug_migrate(NULL, 0));
     PRINT_ANSWER("header", codeplug_header(NULL, 0, texts, sizeof texts));
     PRINT_ANSWER("contact", codeplug_contact(NULL, 0, 0, texts, sizeof texts));
     PRINT_ANSWER("channel", codeplug_channel(NULL, 0, 0, texts, sizeof texts));

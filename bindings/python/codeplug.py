@@ -1,6 +1,7 @@
 """Reads, validates, writes and edits OBCF 0.1.0 codeplug files, by the proved library of bindings/c/include/codeplug.h.
 
-A refused call raises Refused and changes nothing. A number that its field cannot hold at all raises ValueError. Blanks are None."""
+A refused call raises Refused and changes nothing. A number that its field cannot hold at all raises ValueError. Blanks are None. A file
+from before version 2 is migrated first: `validate_legacy` says how to find out."""
 import ctypes
 from dataclasses import dataclass
 
@@ -12,8 +13,8 @@ from codeplug_refused import Refused, accepted
 
 __all__ = ["BROADCAST", "FILE_MAX", "HEADER_SIZE", "TEXT_SIZE", "Bank", "Channel", "Codeplug", "Contact", "Counts", "DmrContact", "DmrInfo",
            "EditAnswer", "EditKind", "FmInfo", "Header", "M17Contact", "M17Info", "Refused", "decode_address", "encode_callsign",
-           "history_entries", "tone_frequency", "tone_index", "validate", "version", "write_channel", "write_contact", "write_empty",
-           "write_text"]
+           "history_entries", "migrate", "tone_frequency", "tone_index", "validate", "validate_legacy", "version", "write_channel",
+           "write_contact", "write_empty", "write_text"]
 
 
 @dataclass(frozen=True)
@@ -45,11 +46,41 @@ class EditAnswer:
     entries: int
 
 
+def _counts(validate_by, file):
+    file = bytes(memoryview(file))
+    answer = accepted(validate_by(file, len(file)))
+    return Counts(answer.contacts, answer.channels, answer.banks)
+
+
 def validate(file):
     """A file's counts. Refusals: the file's, 1 to 12."""
+    return _counts(library.codeplug_validate, file)
+
+
+def validate_legacy(file):
+    """A file's counts by the legacy reading. Refusals: the file's, 1 to 12, by that reading.
+
+    A channel's bandwidth and a DMR contact's type stand in bits 0 and 1 of their byte, receive-only and rx tone in bit 2, as radios read
+    them. Before version 2 they stood in bits 7 and 6, and in bit 5. A file that was written so is a legacy file; everything else in this
+    module goes by the new reading alone.
+
+    Nothing in a file says how it was written. To find out, validate it by both readings. Accepted by `validate_legacy` alone it is a legacy
+    file, to be migrated. Where `validate` accepts it, nothing is to be done; where both do, each of those bytes is 0 and reads the same
+    either way. migrate.py is an example."""
+    return _counts(library.codeplug_validate_legacy, file)
+
+
+def migrate(file):
+    """The bytes that a legacy file becomes; what is given stays as it is. Traits of channels and settings of DMR contacts change, so that
+    every field reads by the new reading as it did by the legacy one; every other byte is the same. Refusals: those of `validate_legacy`.
+
+    A legacy file is migrated once, before anything else is done with it, and its history is thrown away, since the entries are of the
+    legacy bytes. Migrating twice is refused, 7, or changes nothing."""
     file = bytes(memoryview(file))
-    answer = accepted(library.codeplug_validate(file, len(file)))
-    return Counts(answer.contacts, answer.channels, answer.banks)
+    out = buffer(len(file))
+    out.raw = file
+    accepted(library.codeplug_migrate(out, len(out)))
+    return out.raw
 
 
 def write_empty():
@@ -94,7 +125,8 @@ class Codeplug:
     def __init__(self, file, spare=0, history_size=0):
         """Opens a file's bytes, with as many spare bytes for edits (never past the longest file) and a history of the size given. Where the
         history is full, the oldest edits can no longer be undone. An edit whose own entry is longer than the history is refused, 37: an
-        insertion or removal may need as much as the file's length and 9 bytes. Refusals: the file's, 1 to 12."""
+        insertion or removal may need as much as the file's length and 9 bytes. Refusals: the file's, 1 to 12. A legacy file is migrated
+        first."""
         self._open(file, b"", spare, history_size)
 
     @classmethod
@@ -106,7 +138,7 @@ class Codeplug:
     def restore(cls, file, history, spare=0, history_size=0):
         """Opens a file with the history that was stored beside it, so that its edits can be undone. There are at least as many spare bytes
         as undo may need, and the history is at least as long as the one stored. Refusals: the file's, 31. Whether an entry fits the
-        codeplug, only `undo` finds out, 39."""
+        codeplug, only `undo` finds out, 39. The history of a legacy file is not that of the file it is migrated to."""
         codeplug = cls.__new__(cls)
         codeplug._open(file, history, spare, history_size)
         return codeplug

@@ -6,7 +6,7 @@ import pathlib
 from ctypes import c_bool, c_char_p, c_int8, c_size_t, c_uint8, c_uint16, c_uint32, c_uint64
 
 # The header's version. A library of another major version is not loaded.
-__version__ = "1.0.0"
+__version__ = "2.0.0"
 
 FILE_MAX = 1048576
 HEADER_SIZE = 88
@@ -125,6 +125,8 @@ FUNCTIONS = {
     "codeplug_channel_prevalidated": (ChannelAnswer, RECORD),
     "codeplug_bank_prevalidated": (BankAnswer, RECORD),
     "codeplug_bank_entry_prevalidated": (BankEntryAnswer, BYTES + [c_size_t, c_size_t]),
+    "codeplug_validate_legacy": (ValidateAnswer, BYTES),
+    "codeplug_migrate": (ValidateAnswer, BYTES),
     "codeplug_write_contact": (Refusal, BYTES + BYTES + [ContactValues]),
     "codeplug_write_channel": (Refusal, BYTES + BYTES + BYTES + [ChannelCommon, ChannelInfo]),
     "codeplug_write_text": (Refusal, BYTES + BYTES),

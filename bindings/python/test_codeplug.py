@@ -1,5 +1,6 @@
 #!/usr/bin/env python3
 """Tests of codeplug.py: python3 bindings/python/test_codeplug.py."""
+import array
 import ctypes
 import os
 import pathlib
@@ -13,7 +14,8 @@ from dataclasses import replace
 import codeplug_c
 from codeplug import (BROADCAST, FILE_MAX, HEADER_SIZE, TEXT_SIZE, Bank, Channel, Codeplug, Contact, Counts, DmrContact, DmrInfo,
                       EditAnswer, EditKind, FmInfo, Header, M17Contact, M17Info, Refused, __version__, decode_address, encode_callsign,
-                      history_entries, tone_frequency, tone_index, validate, version, write_channel, write_contact, write_empty, write_text)
+                      history_entries, migrate, tone_frequency, tone_index, validate, validate_legacy, version, write_channel,
+                      write_contact, write_empty, write_text)
 from codeplug_refused import TEXTS, accepted
 
 ROOT = pathlib.Path(__file__).resolve().parents[2]
@@ -83,7 +85,7 @@ class AsInC(Case):
             there[name] = names[answer], [names[re.match(r"(.*?) ?\b\w+$", a.strip())[1]] for a in arguments]
         ours = {name: (answer.__name__, [a.__name__ for a in arguments]) for name, (answer, arguments) in codeplug_c.FUNCTIONS.items()}
         self.assertEqual(ours, there)
-        self.assertEqual(len(there), 22)
+        self.assertEqual(len(there), 24)
 
     def test_refusals_say_what_the_header_says(self):
         table = re.findall(r'^ +REFUSAL\(\w+, (\d+), "(.*)"\)', HEADER, re.M)
@@ -207,6 +209,13 @@ class Records(Case):
             for n in range(codeplug.counts().channels):
                 self.assertEqual(write_channel(codeplug.channel(n)), file[at:at + 90])
                 at += 90
+
+    def test_traits_and_settings(self):
+        """The number stands in bits 0 and 1, the flag in bit 2."""
+        for number, flag, byte in (0, False, 0), (1, False, 1), (2, False, 2), (0, True, 4), (1, True, 5), (2, True, 6):
+            for channel in fm(), dmr_channel(None), m17_channel(None):
+                self.assertEqual(write_channel(replace(channel, bandwidth=number, receive_only=flag))[1], byte)
+            self.assertEqual(write_contact(Contact("", DmrContact(1, number, flag)))[37], byte)
 
     def test_contacts_refused(self):
         write_contact(dmr("x" * 32))
@@ -466,6 +475,133 @@ class Storing(Case):
         codeplug = Codeplug.restore(sample("empty"), history)
         self.refused(39, 0, codeplug.undo)
         self.assertEqual((codeplug.bytes(), codeplug.history(), codeplug.undoable()), (sample("empty"), history, 2))
+
+
+def contact_at(n):
+    """The first byte of a contact of the club's file."""
+    return 88 + 39 * n
+
+
+def channel_at(n):
+    return 322 + 90 * n
+
+
+class Legacy(Case):
+    """Legacy files: validated by the legacy reading, and migrated."""
+    COUNTS = Counts(6, 10, 4)
+    # Every byte that traits and settings may be by the legacy reading, and by the new one.
+    BYTES = {0: 0, 0x20: 4, 0x40: 1, 0x60: 5, 0x80: 2, 0xA0: 6}
+
+    def club_with(self, at, changed):
+        """The club's legacy file with other bytes at a place."""
+        file = sample("club-legacy")
+        return file[:at] + bytes(changed) + file[at + len(changed):]
+
+    def both_refuse(self, number, place, file):
+        self.refused(number, place, validate_legacy, file)
+        given = bytearray(file)
+        self.refused(number, place, migrate, given)
+        self.assertEqual(given, file)
+
+    def test_the_legacy_sample_becomes_the_club(self):
+        legacy = sample("club-legacy")
+        self.refused(7, 203, validate, legacy)
+        self.assertEqual((validate_legacy(legacy), migrate(legacy)), (self.COUNTS, sample("club")))
+        changed = [n for n, byte in enumerate(legacy) if byte != sample("club")[n]]
+        self.assertEqual(changed, [contact_at(2) + 37, channel_at(2) + 1, channel_at(3) + 1])
+
+    def test_migrated_records_are_those_of_the_club(self):
+        self.refused(7, 203, Codeplug, sample("club-legacy"))
+        ours, there = Codeplug(migrate(sample("club-legacy"))), club()
+        self.assertEqual(ours.header(), there.header())
+        for read, count in (Codeplug.contact, 6), (Codeplug.channel, 10), (Codeplug.bank, 4), (Codeplug.entries, 4):
+            for n in range(count):
+                self.assertEqual(read(ours, n), read(there, n))
+        self.assertEqual(ours.contact(2).info, DmrContact(2221337, 1, True))
+        self.assertEqual([(ours.channel(n).bandwidth, ours.channel(n).receive_only) for n in (2, 3)], [(2, False), (0, True)])
+
+    def test_bytes_like(self):
+        """What is given stays, whatever it is; bytes come back."""
+        legacy = sample("club-legacy")
+        for given in legacy, bytearray(legacy), memoryview(bytearray(legacy)), array.array("Q", legacy):
+            before = bytes(given)
+            self.assertEqual((validate_legacy(given), migrate(given)), (self.COUNTS, sample("club")))
+            self.assertIs(type(migrate(given)), bytes)
+            self.assertEqual(bytes(given), before)
+        doubled = bytes(byte for byte in legacy for _ in range(2))
+        self.assertEqual(migrate(memoryview(doubled)[::2]), sample("club"))
+        for call in validate_legacy, migrate:
+            self.assertRaises(TypeError, call, 88)
+            self.assertRaises(TypeError, call, "RTXC")
+            self.assertRaises(TypeError, call, None)
+
+    def test_every_byte(self):
+        """As a contact's settings and as the traits of a channel of each mode."""
+        for at in contact_at(0) + 37, channel_at(0) + 1, channel_at(4) + 1, channel_at(9) + 1:
+            for byte in range(256):
+                file = self.club_with(at, [byte])
+                if byte in self.BYTES:
+                    self.assertEqual(validate_legacy(file), self.COUNTS)
+                    self.assertEqual(migrate(file), sample("club")[:at] + bytes([self.BYTES[byte]]) + sample("club")[at + 1:])
+                else:
+                    self.both_refuse(7, at, file)
+
+    def test_fields_read_as_they_did(self):
+        for byte in self.BYTES:
+            number, flag = byte >> 6, byte & 0x20 != 0
+            ours = Codeplug(migrate(self.club_with(channel_at(7) + 1, [byte]))).channel(7)
+            self.assertEqual((ours.bandwidth, ours.receive_only), (number, flag))
+            ours = Codeplug(migrate(self.club_with(contact_at(1) + 37, [byte]))).contact(1)
+            self.assertEqual(ours.info, DmrContact(2227, number, flag))
+
+    def test_an_m17_address_stays(self):
+        """Byte 37 of an M17 contact belongs to its address."""
+        for byte in range(256):
+            left = migrate(self.club_with(contact_at(5) + 33, [0, 0, 0, 1, byte, 0]))
+            self.assertEqual(Codeplug(left).contact(5).info, M17Contact(0x10000 + 0x100 * byte))
+
+    def test_each_refusal(self):
+        for number, at, changed in ((3, 0, b"r"), (4, 8, b"\2"), (5, channel_at(9) + 13, b"\n"), (6, channel_at(9), b"\3"),
+                                    (7, channel_at(9) + 77, [91]), (8, contact_at(4) + 33, b"\xff\xff"), (9, channel_at(4) + 87, b"\3"),
+                                    (10, 1222, b"\1"), (11, 1238 + 34, [10])):
+            self.both_refuse(number, at, self.club_with(at, changed))
+        self.both_refuse(1, 0, bytes(FILE_MAX + 1))
+        self.both_refuse(2, 0, b"")
+        self.both_refuse(12, 1400, sample("club-legacy") + b"\0")
+
+    def test_cut_at_every_length(self):
+        """A legacy file is refused as the file it becomes is."""
+        for length in range(1400):
+            with self.assertRaises(Refused) as caught:
+                validate(sample("club")[:length])
+            self.assertEqual(caught.exception.number, 2)
+            self.both_refuse(2, caught.exception.place, sample("club-legacy")[:length])
+
+    def test_migrated_twice_is_refused(self):
+        self.both_refuse(7, 203, migrate(sample("club-legacy")))
+
+    def test_valid_by_both_readings_stays(self):
+        for name in "dealer", "hire", "empty":
+            self.assertEqual((validate_legacy(sample(name)), migrate(sample(name))), (validate(sample(name)), sample(name)))
+
+    def test_edited_and_undone(self):
+        """Edits begin at the migrated file, and undo leads back to it."""
+        codeplug = Codeplug(migrate(sample("club-legacy")), 1000, 10000)
+        codeplug.remove_contact(2)
+        codeplug.remove_channel(3)
+        while codeplug.undoable():
+            codeplug.undo()
+        self.assertEqual(codeplug.bytes(), sample("club"))
+
+    def test_the_history_of_a_legacy_file_does_not_fit(self):
+        """Why it is thrown away: undo may be refused, or bring back a wrong file."""
+        # Settings of contact 2, at 203, were 0x40.
+        self.refused(39, 0, Codeplug.restore(sample("club"), bytes([0xCB, 1, 1, 1, 0x40])).undo)
+        # Its mode, at 198, was M17: then byte 203 belonged to the address, and should have stayed 0x60.
+        codeplug = Codeplug.restore(sample("club"), bytes([0xC6, 1, 1, 1, 2]))
+        codeplug.undo()
+        right = migrate(self.club_with(198, [2]))
+        self.assertEqual((codeplug.bytes()[203], right[203], validate(right)), (5, 0x60, self.COUNTS))
 
 
 if __name__ == "__main__":

@@ -225,10 +225,10 @@ impl Folder {
 }
 
 /// Renames a file to one beside it that is not there yet, and tells which.
-pub fn set_aside(path: &Path) -> Result<PathBuf, Fail> {
+pub fn set_aside(path: &Path) -> io::Result<PathBuf> {
     let free = |end: &String| fs::symlink_metadata(beside(path, end)).is_err();
     let ends = std::iter::once(".aside".to_string()).chain((2..).map(|n| format!(".aside-{n}")));
     let aside = beside(path, &ends.into_iter().find(free).expect("there are numbers enough"));
-    fs::rename(path, &aside).map_err(|e| io_fail(path, &e))?;
+    fs::rename(path, &aside)?;
     Ok(aside)
 }

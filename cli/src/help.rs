@@ -16,6 +16,7 @@ pub fn of(verb: &str) -> Option<String> {
         "move" => (include_str!("../help/move.txt"), true),
         "undo" => (include_str!("../help/undo.txt"), true),
         "history" => (include_str!("../help/history.txt"), false),
+        "migrate" => (include_str!("../help/migrate.txt"), false),
         "diff" => (include_str!("../help/diff.txt"), false),
         "tone" => (include_str!("../help/tone.txt"), false),
         "callsign" => (include_str!("../help/callsign.txt"), false),

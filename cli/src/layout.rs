@@ -14,11 +14,11 @@ const HEADER: Fields = &[
     (84, "channel count"),
     (86, "bank count"),
 ];
-const DMR_CONTACT: Fields = &[(0, "name"), (32, "mode"), (33, "id"), (37, "settings"), (38, "pad")];
+const DMR_CONTACT: Fields = &[(0, "name"), (32, "mode"), (33, "id"), (SETTINGS, "settings"), (38, "pad")];
 const M17_CONTACT: Fields = &[(0, "name"), (32, "mode"), (33, "address")];
 const CHANNEL: Fields = &[
     (0, "mode"),
-    (1, "traits"),
+    (TRAITS, "traits"),
     (2, "power"),
     (3, "receive frequency"),
     (7, "transmit frequency"),
@@ -41,6 +41,10 @@ const BANK: Fields = &[(0, "name"), (32, "entry count")];
 pub const OFFSET_SIZE: usize = 4;
 /// Where the header's author stands, and behind it all that edit 12 sets.
 pub const AUTHOR: usize = 10;
+/// Where a DMR contact's settings stand in its record.
+pub const SETTINGS: usize = 37;
+/// Where a channel's traits stand in its record.
+pub const TRAITS: usize = 1;
 
 fn at(fields: Fields, offset: usize) -> (usize, &'static str) {
     *fields.iter().rev().find(|(start, _)| *start <= offset).unwrap_or(&fields[0])

@@ -14,8 +14,10 @@ mod fields;
 mod help;
 mod history;
 mod layout;
+mod migrate;
 mod moves;
 mod out;
+mod reading;
 mod records;
 mod rows;
 mod session;
@@ -79,6 +81,7 @@ fn make(verb: &str, args: Args, out: &mut Out) -> Done {
         "move" => moves::move_to(args, out),
         "undo" => verbs::undo(args, out),
         "history" => session::history(args, out),
+        "migrate" => migrate::migrate(args, out),
         "diff" => diff::diff(args, out),
         "tone" => convert::tone(args, out),
         "callsign" => convert::callsign(args, out),
@@ -90,6 +93,7 @@ fn make(verb: &str, args: Args, out: &mut Out) -> Done {
 /// The options that a verb knows: those with a value, and those without.
 fn options(verb: &str) -> (Vec<&'static str>, Vec<&'static str>) {
     let (mut values, mut flags) = match verb {
+        "check" => (vec![], vec!["legacy"]),
         "new" => fields::options(HEADER),
         "set" | "add" => {
             let all = [fields::options(HEADER), fields::options(CONTACT), fields::options(CHANNEL)];
@@ -103,6 +107,7 @@ fn options(verb: &str) -> (Vec<&'static str>, Vec<&'static str>) {
         "rename" => (vec![], vec!["no-name"]),
         "undo" => (vec!["count"], vec![]),
         "history" => (vec!["count", "wait"], vec![]),
+        "migrate" => (vec!["wait"], session::FLAGS.to_vec()),
         "tone" => (vec!["index"], vec![]),
         "callsign" => (vec![], vec!["hex"]),
         _ => (vec![], vec![]),

@@ -6,21 +6,21 @@ use crate::edits::Edit;
 use crate::fail::{usage, Done, Fail};
 use crate::history::{Batch, Command, History, LARGEST_SIZE};
 use crate::out::{say, Out};
+use crate::reading::{shown, Reading};
 use crate::records::Records;
 use crate::sha256::sha256;
-use crate::show::{refused_open, shown};
 use crate::stored::{Order, Stored};
 use codeplug::{Codeplug, Refused, FILE_MAX};
 use std::ffi::OsStr;
 use std::time::Duration;
 
-/// The options of every verb that changes a file, with a value and without.
+/// The options of the verbs that edit a file, with a value and without.
 pub const VALUES: [&str; 2] = ["history-size", "wait"];
 pub const FLAGS: [&str; 2] = ["dry-run", "verbose"];
 
 pub struct Options {
-    dry_run: bool,
-    verbose: bool,
+    pub dry_run: bool,
+    pub verbose: bool,
     history_size: Option<usize>,
     wait: Duration,
 }
@@ -44,6 +44,19 @@ const HISTORY_TOO_SMALL: &str = "what undo needs of this command does not fit th
 /// How long to wait for another codeplug.
 fn wait_of(args: &mut Args) -> Result<Duration, Fail> {
     Ok(Duration::from_secs(args.number("wait", 86_400)?.unwrap_or(10) as u64))
+}
+
+/// What a file or standard input holds, where the file lies, and the history that belongs to it. Who only tries a change does not need to be
+/// alone.
+pub fn read(name: &OsStr, options: &Options) -> Result<(Option<Stored>, Vec<u8>, History), Fail> {
+    if name == "-" {
+        let file = read_codeplug(name)?;
+        let history = History::new(&file);
+        return Ok((None, file, history));
+    }
+    let lock = if options.dry_run { Lock::Shared } else { Lock::Alone };
+    let (stored, file, history) = Stored::open(name, lock, options.wait)?;
+    Ok((Some(stored), file, history))
 }
 
 /// How many edits of a command the library has in its history at once.
@@ -70,16 +83,8 @@ pub struct Session {
 
 impl Session {
     pub fn open(name: &OsStr, options: Options) -> Result<Session, Fail> {
-        let (stored, file, mut history) = if name == "-" {
-            let file = read_codeplug(name)?;
-            let history = History::new(&file);
-            (None, file, history)
-        } else {
-            let lock = if options.dry_run { Lock::Shared } else { Lock::Alone };
-            let (stored, file, history) = Stored::open(name, lock, options.wait)?;
-            (Some(stored), file, history)
-        };
-        let refused = |refused: Refused| refused_open(name, &file, refused);
+        let (stored, file, mut history) = read(name, &options)?;
+        let refused = |refused: Refused| Reading::New.refused(name, &file, refused);
         let records = Records::of(&file).map_err(refused)?;
         let codeplug = Codeplug::open(&file, FILE_MAX, 0).map_err(refused)?;
         if stored.is_some() {
@@ -203,7 +208,7 @@ pub fn history(mut args: Args, out: &mut Out) -> Done {
         return usage("there is no history of standard input");
     }
     let (stored, file, history) = Stored::open(&name, Lock::Shared, wait)?;
-    let refused = |refused: Refused| refused_open(&name, &file, refused);
+    let refused = |refused: Refused| Reading::New.refused(&name, &file, refused);
     let mut newer = Records::of(&file).map_err(refused)?;
     if stored.has_foreign_history() {
         stored.say_foreign();
@@ -213,7 +218,7 @@ pub fn history(mut args: Args, out: &mut Out) -> Done {
     let mut state = file.clone();
     for n in 0..history.commands.len().min(most) {
         let Some(before) = history.take_back(state, n) else {
-            return Err(Fail::Io(format!("{}: its history is damaged, and what follows cannot be undone", shown(&name))));
+            return Err(Fail::Io(format!("{}: its history is damaged, or goes back to a legacy codeplug, and what follows cannot be undone", shown(&name))));
         };
         let older = Records::of(&before).map_err(refused)?;
         out.line(&(n + 1).to_string())?;

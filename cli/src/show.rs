@@ -1,9 +1,10 @@
 //! The verb show: tables for people, JSON and CSV for programs.
 use crate::args::Args;
 use crate::disk::read_codeplug;
-use crate::explain::{label, refused_file};
+use crate::explain::label;
 use crate::fail::{usage, Done, Fail};
 use crate::out::{Out, Paint};
+use crate::reading::{shown, Reading};
 use crate::records::Records;
 use crate::rows::{rows_of, Form};
 use crate::which::place_of;
@@ -13,20 +14,7 @@ use std::ffi::OsStr;
 /// A file's records, or its refusal in words.
 pub fn open(name: &OsStr) -> Result<Records, Fail> {
     let file = read_codeplug(name)?;
-    Records::of(&file).map_err(|refused| refused_open(name, &file, refused))
-}
-
-pub fn refused_open(name: &OsStr, file: &[u8], refused: Refused) -> Fail {
-    Fail::Refused { about: shown(name), refused, words: refused_file(file, refused) }
-}
-
-/// A file as it was named.
-pub fn shown(name: &OsStr) -> String {
-    if name == "-" {
-        "standard input".into()
-    } else {
-        name.to_string_lossy().into_owned()
-    }
+    Records::of(&file).map_err(|refused| Reading::New.refused(name, &file, refused))
 }
 
 /// What is shown: everything, one part, or one record.
@@ -67,7 +55,7 @@ pub fn show(mut args: Args, out: &mut Out) -> Done {
         return usage("--csv shows one part: header, contacts, channels or banks");
     }
     let file = read_codeplug(&name)?;
-    let records = Records::of(&file).map_err(|refused| refused_open(&name, &file, refused))?;
+    let records = Records::of(&file).map_err(|refused| Reading::New.refused(&name, &file, refused))?;
     match wanted {
         Wanted::All if form == Form::Json => all_json(&records, out),
         Wanted::All => all_tables(&records, out),

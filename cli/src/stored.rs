@@ -11,14 +11,17 @@ use std::path::{Path, PathBuf};
 use std::time::Duration;
 
 const NOT_ITS_OWN: &str = "does not belong to the file any more, which something else changed";
-const UNKNOWN: &str = "is damaged, or no history that this program knows";
+const UNKNOWN: &str = "is damaged, goes back to a legacy codeplug, or is no history that this program knows";
+const MIGRATED: &str = "does not belong to the file any more, which was migrated";
 
 /// Where a codeplug lies. It stays locked as long as this is held.
 pub struct Stored {
     path: PathBuf,
     opened: Metadata,
     locked: File,
-    /// Why FILE.history is not used.
+    /// Whether there is a FILE.history.
+    has_history: bool,
+    /// Why it is not used.
     foreign: Option<&'static str>,
 }
 
@@ -42,7 +45,9 @@ impl Stored {
         let mut locked = open_locked(&options, &path, lock, wait)?;
         let opened = locked.metadata().map_err(|e| io_fail(&path, &e))?;
         let file = read_most(&mut locked, FILE_MAX + 1).map_err(|e| io_fail(&path, &e))?;
-        let (history, foreign) = match read_history(&beside(&path, ".history"))?.map(|stored| History::parse(&stored)) {
+        let history = read_history(&beside(&path, ".history"))?;
+        let has_history = history.is_some();
+        let (history, foreign) = match history.map(|stored| History::parse(&stored)) {
             None => (None, None),
             Some(None) => (None, Some(UNKNOWN)),
             Some(Some(history)) => {
@@ -52,7 +57,7 @@ impl Stored {
             }
         };
         let history = history.unwrap_or_else(|| History::new(&file));
-        Ok((Stored { path, opened, locked, foreign }, file, history))
+        Ok((Stored { path, opened, locked, has_history, foreign }, file, history))
     }
 
     /// Whether there is a history that does not belong to the file.
@@ -62,17 +67,33 @@ impl Stored {
 
     /// Says of a history that it does not belong to the file.
     pub fn say_foreign(&self) {
-        say(&self.foreign_line());
+        say(&self.history_line(self.foreign.unwrap_or(UNKNOWN)));
     }
 
-    fn foreign_line(&self) -> String {
-        format!("codeplug: {}: {}", beside(&self.path, ".history").display(), self.foreign.unwrap_or(UNKNOWN))
+    /// Says of a history that the migrated file would not have it.
+    pub fn say_history_would_go(&self) {
+        if self.has_history {
+            say(&self.history_line("would be set aside, since a migrated file has no history"));
+        }
+    }
+
+    fn history_line(&self, words: &str) -> String {
+        format!("codeplug: {}: {words}", self.history_path().display())
+    }
+
+    fn history_path(&self) -> PathBuf {
+        beside(&self.path, ".history")
     }
 
     /// Renames a history that does not belong to the file, and says so.
     pub fn set_history_aside(&self) -> Done {
-        let aside = set_aside(&beside(&self.path, ".history"))?;
-        say(&format!("{}; set aside as {}", self.foreign_line(), aside.display()));
+        self.rename_history(UNKNOWN).map_err(|e| io_fail(&self.history_path(), &e))
+    }
+
+    /// The same; `why` is said of one that belonged to it until now.
+    fn rename_history(&self, why: &str) -> io::Result<()> {
+        let aside = set_aside(&self.history_path())?;
+        say(&format!("{}; set aside as {}", self.history_line(self.foreign.unwrap_or(why)), aside.display()));
         Ok(())
     }
 
@@ -80,10 +101,8 @@ impl Stored {
     pub fn replace(&self, codeplug: &[u8], history: &History, order: Order) -> Done {
         let folder = Folder::of(&self.path)?;
         let codeplug = Prepared::replacing(&self.path, codeplug, &self.locked)?;
-        let history = Prepared::replacing(&beside(&self.path, ".history"), &history.stored(), &self.locked)?;
-        if !unchanged(&self.path, &self.opened) {
-            return Err(Fail::Io(format!("{}: was changed by something else meanwhile; nothing is saved", self.path.display())));
-        }
+        let history = Prepared::replacing(&self.history_path(), &history.stored(), &self.locked)?;
+        self.is_as_opened()?;
         if self.has_foreign_history() {
             self.set_history_aside()?;
         }
@@ -93,6 +112,30 @@ impl Stored {
         // The first is on the disk before the second.
         let _second = folder.sync().and_then(|()| second.rename()).map_err(|e| self.failed(e, codeplug_first))?;
         folder.sync().map_err(|e| self.failed(e, true))
+    }
+
+    /// Replaces a codeplug by the migrated one, which has no history. One that is there is set aside once the codeplug is in place, so that
+    /// until then nothing is changed.
+    pub fn replace_migrated(&self, codeplug: &[u8]) -> Done {
+        let folder = Folder::of(&self.path)?;
+        let codeplug = Prepared::replacing(&self.path, codeplug, &self.locked)?;
+        self.is_as_opened()?;
+        let _codeplug = codeplug.rename().map_err(|e| self.failed(e, false))?;
+        folder.sync().map_err(|e| self.failed(e, true))?;
+        if !self.has_history {
+            return Ok(());
+        }
+        let kept = |e: io::Error| format!("{}: is saved, but its history could not be set aside: {}", self.path.display(), io_words(&e));
+        self.rename_history(MIGRATED).map_err(|e| Fail::Io(kept(e)))?;
+        folder.sync().map_err(|e| self.failed(e, true))
+    }
+
+    /// That nothing else has changed the file since it was opened.
+    fn is_as_opened(&self) -> Done {
+        if unchanged(&self.path, &self.opened) {
+            return Ok(());
+        }
+        Err(Fail::Io(format!("{}: was changed by something else meanwhile; nothing is saved", self.path.display())))
     }
 
     /// What failed before or after the codeplug was replaced.

@@ -116,13 +116,23 @@ def callsign(number):
     return "" if number == 0 else DIGITS[number % 40] + callsign(number // 40)
 
 
-def parse(plug):
+def packed(number, flag, legacy):
+    """Traits or settings: two bits and one, from the bottom of the byte or, in a legacy codeplug, from the top."""
+    return number << 6 | flag << 5 if legacy else flag << 2 | number
+
+
+def unpacked(byte, legacy):
+    """The other direction."""
+    return (byte >> 6, bool(byte & 0x20)) if legacy else (byte & 3, bool(byte & 4))
+
+
+def parse(plug, legacy=False):
     """A valid codeplug's header, contacts, channels and banks. A tone is (on, index), a latitude or longitude a number of ten-thousandths
-    of a degree, a power its byte, a frequency in Hz; a blank scan or group list is 0, a blank contact None."""
+    of a degree, a power its byte, a frequency in Hz; a blank scan or group list is 0, a blank contact None. legacy: by the legacy reading."""
     author, description, timestamp, *counts = struct.unpack_from("<32s32sQHHH", plug, 10)
     at, lists = HEADER, []
     for size, count, read in ((CONTACT, counts[0], parse_contact), (CHANNEL, counts[1], parse_channel)):
-        lists.append([read(plug[at + size * n : at + size * (n + 1)]) for n in range(count)])
+        lists.append([read(plug[at + size * n : at + size * (n + 1)], legacy) for n in range(count)])
         at += size * count
     at, banks = at + 4 * counts[2], []
     for _ in range(counts[2]):
@@ -138,19 +148,21 @@ def parse_text(raw):
     return raw.rstrip(b"\0").decode("ascii")
 
 
-def parse_contact(raw):
+def parse_contact(raw, legacy):
     contact = {"name": parse_text(raw[:32]), "mode": MODES[raw[32]]}
     if contact["mode"] == "m17":
         return contact | {"address": int.from_bytes(raw[33:], "big")}
     number, settings = struct.unpack_from("<IB", raw, 33)
-    return contact | {"id": number, "contact_type": TYPES[settings >> 6], "rx_tone": bool(settings & 0x20)}
+    contact_type, rx_tone = unpacked(settings, legacy)
+    return contact | {"id": number, "contact_type": TYPES[contact_type], "rx_tone": rx_tone}
 
 
-def parse_channel(raw):
+def parse_channel(raw, legacy):
     mode, traits, power, receive, transmit, scan, group, name, description = struct.unpack_from("<BBBIIBB32s32s", raw)
     north, north_part, east, east_part, height = struct.unpack_from("<bHbHH", raw, 77)
+    bandwidth, receive_only = unpacked(traits, legacy)
     channel = {"name": parse_text(name), "description": parse_text(description), "mode": MODES[mode]}
-    channel |= {"receive_hz": receive, "transmit_hz": transmit, "bandwidth": BANDWIDTHS[traits >> 6], "receive_only": bool(traits & 0x20)}
+    channel |= {"receive_hz": receive, "transmit_hz": transmit, "bandwidth": BANDWIDTHS[bandwidth], "receive_only": receive_only}
     channel |= {"power": power, "scan_list": scan, "group_list": group}
     channel |= {"latitude": north * 10000 + north_part, "longitude": east * 10000 + east_part, "altitude": height - 500}
     info = raw[85:]
@@ -164,12 +176,12 @@ def parse_channel(raw):
     return channel | {"operation": OPERATIONS[info[1] >> 4], "encryption": ENCRYPTIONS[info[1] & 15], "position": bool(info[2])}
 
 
-def build(plug):
+def build(plug, legacy=False):
     """The codeplug's bytes: the other direction of parse."""
     h, banks = plug["header"], [build_bank(b) for b in plug["banks"]]
     counts = (len(plug["contacts"]), len(plug["channels"]), len(banks))
     out = b"RTXC\0\0\0\0\1\0" + struct.pack("<32s32sQHHH", h["author"].encode(), h["description"].encode(), h["timestamp"], *counts)
-    out += b"".join(map(build_contact, plug["contacts"])) + b"".join(map(build_channel, plug["channels"]))
+    out += b"".join(build_contact(c, legacy) for c in plug["contacts"]) + b"".join(build_channel(c, legacy) for c in plug["channels"])
     out += b"".join(struct.pack("<I", sum(map(len, banks[:n]))) for n in range(len(banks)))
     return out + b"".join(banks)
 
@@ -178,15 +190,15 @@ def build_bank(b):
     return struct.pack(f"<32sH{len(b['entries'])}H", b["name"].encode(), len(b["entries"]), *b["entries"])
 
 
-def build_contact(c):
+def build_contact(c, legacy):
     head = struct.pack("<32sB", c["name"].encode(), MODES.index(c["mode"]))
     if c["mode"] == "m17":
         return head + c["address"].to_bytes(6, "big")
-    return head + struct.pack("<IBB", c["id"], TYPES.index(c["contact_type"]) << 6 | c["rx_tone"] << 5, 0)
+    return head + struct.pack("<IBB", c["id"], packed(TYPES.index(c["contact_type"]), c["rx_tone"], legacy), 0)
 
 
-def build_channel(c):
-    traits = BANDWIDTHS.index(c["bandwidth"]) << 6 | c["receive_only"] << 5
+def build_channel(c, legacy):
+    traits = packed(BANDWIDTHS.index(c["bandwidth"]), c["receive_only"], legacy)
     head = (MODES.index(c["mode"]), traits, c["power"], c["receive_hz"], c["transmit_hz"], c["scan_list"], c["group_list"])
     place = (*divmod(c["latitude"], 10000), *divmod(c["longitude"], 10000), c["altitude"] + 500)
     raw = struct.pack("<BBBIIBB32s32sbHbHH", *head, c["name"].encode(), c["description"].encode(), *place)

@@ -9,7 +9,7 @@ import unittest
 
 from common import BROADCAST, CHANNEL, CONTACT, HEADER, LIMIT, SAMPLES, Case, longest, run
 
-CLUB = (SAMPLES / "club.rtxc").read_bytes()
+CLUB, LEGACY = ((SAMPLES / f"{name}.rtxc").read_bytes() for name in ("club", "club-legacy"))  # the same codeplug in either order
 CHANNELS = HEADER + 6 * CONTACT  # where the club's channels begin
 TABLE = CHANNELS + 10 * CHANNEL  # where its offset table begins
 
@@ -25,8 +25,8 @@ class Bad(Exception):
 class Reader:
     """Goes through the fields in order and raises Bad for the first bad one; keeps a list of those that it met."""
 
-    def __init__(self, plug):
-        self.plug, self.at, self.fields, self.record = plug, 0, [], ("header", None)
+    def __init__(self, plug, legacy):
+        self.plug, self.legacy, self.at, self.fields, self.record = plug, legacy, 0, [], ("header", None)
 
     def take(self, size, field, number=7, good=lambda raw: True):
         self.fields.append((self.at, size, *self.record, field))
@@ -42,6 +42,10 @@ class Reader:
     def text(self, field):
         self.take(32, field, 5, is_text)
 
+    def packed(self, field):
+        """A number of 0 to 2 and a flag, and five reserved bits."""
+        self.byte(field, lambda b: b >> 6 < 3 and b & 0x1F == 0 if self.legacy else b & 3 < 3 and b < 8)
+
 
 def is_text(raw):
     return re.fullmatch(rb"[ -~]*\0*", raw) is not None
@@ -52,11 +56,11 @@ def is_address(raw):
     return 0 < number < 40**9 or number == BROADCAST
 
 
-def judge(plug):
-    """The reader after a valid codeplug; Bad for another."""
+def judge(plug, legacy=False):
+    """The reader after a valid codeplug; Bad for another. legacy: by the legacy reading."""
     if len(plug) > LIMIT:
         raise Bad(1, 0, "file", None, "length")
-    r = Reader(plug)
+    r = Reader(plug, legacy)
     r.take(8, "magic", 3, lambda raw: raw == b"RTXC\0\0\0\0")
     r.take(2, "version", 4, lambda raw: raw == b"\1\0")
     r.text("author")
@@ -80,7 +84,7 @@ def judge_contact(r, n):
         r.take(6, "address", 8, is_address)
     else:
         r.take(4, "id")
-        r.byte("settings", lambda b: b >> 6 < 3 and b & 0x1F == 0)
+        r.packed("settings")
         r.byte("pad", lambda b: b == 0)
     return mode
 
@@ -88,7 +92,7 @@ def judge_contact(r, n):
 def judge_channel(r, n, modes):
     r.record = ("channel", n)
     mode = r.byte("mode", lambda b: b < 3, 6)
-    r.byte("traits", lambda b: b >> 6 < 3 and b & 0x1F == 0)
+    r.packed("traits")
     r.take(1, "power")
     r.take(4, "receive frequency")
     r.take(4, "transmit frequency")
@@ -137,10 +141,10 @@ def judge_banks(r, channels, banks):
             r.take(2, f"entry {j}", 11, lambda raw: int.from_bytes(raw, "little") < channels)
 
 
-def verdict(plug):
+def verdict(plug, legacy=False):
     """The first line, and what was found bad."""
     try:
-        met = judge(plug)
+        met = judge(plug, legacy)
     except Bad as bad:
         return f"refused {bad.number} at {bad.place}", bad
     return "ok " + " ".join(str(int.from_bytes(met.plug[at : at + 2], "little")) for at in (82, 84, 86)), None
@@ -201,14 +205,14 @@ class Check(Case):
         named = re.escape(record(plug, bad)) + (r"( \([^)]*\))?" if "(" not in record(plug, bad) and bad.n is not None else "")
         self.assertRegex(line, rf"\b{named}[,:] ((the|first|second|third) )?({field})\b", bad.args)
 
-    def check_all(self, plugs):
+    def check_all(self, plugs, legacy=False):
         """Checks all these, and the club's own, in one call: a line each on standard output, and for each refused one a line of words."""
-        plugs = [*plugs, CLUB]
+        plugs = [*plugs, LEGACY if legacy else CLUB]
         names = [f"{n}.x" for n in range(len(plugs))]
         for name, plug in zip(names, plugs):
             self.write(name, plug)
-        answer = run("check", *names, cwd=self.folder)
-        verdicts = [verdict(plug) for plug in plugs]
+        answer = run("check", *names, *(["--legacy"] if legacy else []), cwd=self.folder)
+        verdicts = [verdict(plug, legacy) for plug in plugs]
         self.assertEqual(answer.text.splitlines(), [f"{name}: {line}" for name, (line, _) in zip(names, verdicts)])
         spoilt = [(name, plug, bad) for name, plug, (_, bad) in zip(names, plugs, verdicts) if bad]
         lines = answer.err.splitlines()
@@ -230,7 +234,8 @@ CONTROL, DELETE, LATE = b"a\nb", b"\x7f", b"a\0b"
 TEXTS = [CONTROL, DELETE, LATE, b"\x80", b"\x1f", b"\0" * 31 + b"!"]
 FM, DMR, M17 = (CHANNELS + n * CHANNEL for n in (3, 4, 7))
 BANK = TABLE + 16
-RESERVED = [bytes([1 << bit]) for bit in range(5)] + [b"\xc0", b"\xff"]
+RESERVED = [bytes([1 << bit]) for bit in range(3, 8)] + [b"\x03", b"\x07", b"\xff"]
+LEGACY_RESERVED = [bytes([1 << bit]) for bit in range(5)] + [b"\xc0", b"\xe0", b"\xff"]
 SPOILT = {
     "magic": (3, 0, [b"X", b"RTXD", b"RTXC\1", b"RTXC\0\0\0\1"]),
     "version": (4, 8, [b"\0", b"\2", b"\1\1"]),
@@ -270,8 +275,8 @@ SPOILT = {
     "last entry": (11, len(CLUB) - 2, [b"\x0a\0", b"\xff\xff"]),
 }
 # Values at the edges of the rules that are allowed.
-GOOD_EDGES = [(74, b"\xff" * 8), (HEADER + 33, b"\xff" * 4), (HEADER + 37, b"\xa0"), (HEADER, b"x" * 32), (HEADER + 3 * CONTACT + 33, b"\0" * 5 + b"\1")]
-GOOD_EDGES += [(FM + 1, b"\xa0"), (FM + 2, b"\xff"), (FM + 3, b"\xff" * 8), (FM + 11, b"\xfa"), (FM + 12, b"\x80"), (FM + 77, b"\x5a\0\0")]
+GOOD_EDGES = [(74, b"\xff" * 8), (HEADER + 33, b"\xff" * 4), (HEADER + 37, b"\6"), (HEADER, b"x" * 32), (HEADER + 3 * CONTACT + 33, b"\0" * 5 + b"\1")]
+GOOD_EDGES += [(FM + 1, b"\6"), (FM + 2, b"\xff"), (FM + 3, b"\xff" * 8), (FM + 11, b"\xfa"), (FM + 12, b"\x80"), (FM + 77, b"\x5a\0\0")]
 GOOD_EDGES += [(FM + 77, b"\xa6\x0f\x27"), (FM + 80, b"\x80\x0f\x27"), (FM + 83, b"\xff\xff"), (FM + 85, b"\x31\xb1"), (DMR + 85, b"\xff\2")]
 GOOD_EDGES += [(DMR + 87, b"\xff\xff"), (M17 + 85, b"\xff\x32\1"), (M17 + 88, b"\xff\xff"), (BANK + 34, b"\x09\0")]
 
@@ -287,7 +292,7 @@ class Samples(Check):
 
     def test_the_words_on_every_sample(self):
         refused = [path.read_bytes() for path in sorted(SAMPLES.glob("*.rtxc"))]
-        self.assertEqual(len(self.check_all(refused)), 9)
+        self.assertEqual(len(self.check_all(refused)), 10)
 
     def test_the_issues_own_example(self):
         words = run("check", self.folder / "club-tone-50.rtxc").err
@@ -323,6 +328,11 @@ class Spoilt(Check):
 
     def test_what_is_allowed_at_the_edges(self):
         self.assertEqual(self.check_all([changed(at, value) for at, value in GOOD_EDGES]), [])
+
+    def test_every_byte_of_traits_and_settings(self):
+        for place in (FM + 1, HEADER + 37):
+            found = self.check_all([changed(place, bytes([byte])) for byte in range(256)])
+            self.assertEqual([(bad.number, bad.place) for bad in found], [(7, place)] * 250)
 
     def test_a_tone_that_is_off_has_the_same_rule(self):
         self.assertEqual(run("check", "-", stdin=changed(FM + 85, b"\x32")).text, f"refused 7 at {FM + 85}\n")

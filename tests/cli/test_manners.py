@@ -12,7 +12,7 @@ import unittest
 from common import HELP, LIMIT, PROGRAM, Case, build, example, parse, run
 
 EDITING = ["set", "add", "remove", "rename", "move", "undo"]
-VERBS = ["check", "show", "new", *EDITING, "history", "diff", "tone", "callsign", "address", "help"]
+VERBS = ["check", "show", "new", *EDITING, "history", "migrate", "diff", "tone", "callsign", "address", "help"]
 ESCAPE = b"\x1b"
 
 
@@ -248,10 +248,11 @@ class Colours(Case):
 
 READING = [["check"], ["show"], ["history"]]
 WRITING = [["set", "header", "--author", "X"], ["rename", "channel", "0", "X"], ["remove", "bank", "0"], ["move", "bank", "0", "1"], ["add", "bank", "--name", "X"], ["undo"]]
+MIGRATING = [["migrate"]]
 
 
 class BadFiles(Case):
-    def every_verb(self, path, words, verbs=READING + WRITING, **more):
+    def every_verb(self, path, words, verbs=READING + WRITING + MIGRATING, **more):
         """Each verb on this file is one line of plain words, status 2, and leaves the folder as it was."""
         before = sorted(os.listdir(self.folder))
         for verb, *rest in verbs:
@@ -283,13 +284,14 @@ class BadFiles(Case):
     def test_a_file_that_is_longer_than_the_limit(self):
         path = self.folder / "long"
         path.write_bytes(bytes(LIMIT + 1))
-        for verb, *rest in [["show"], *WRITING[:-1]]:
+        for verb, *rest in [["show"], *WRITING[:-1], *MIGRATING]:
             with self.untouched():
                 self.assertRegex(self.refused(1, 0, verb, path, *rest), r"long|limit")
 
     def test_standard_input_that_is_longer_than_the_limit(self):
         self.refused(1, 0, "show", "-", stdin=bytes(LIMIT + 1))
         self.refused(1, 0, "set", "-", "header", "--author", "X", stdin=bytes(LIMIT + 1))
+        self.refused(1, 0, "migrate", "-", stdin=bytes(LIMIT + 1))
 
     def test_what_is_no_regular_file(self):
         for args in (["set", "/dev/null", "header", "--author", "X"], ["new", "/dev/full"], ["new", self.folder]):
@@ -325,7 +327,7 @@ class Permissions(Case):
     def test_a_file_that_may_not_be_read(self):
         self.club.chmod(0)
         with self.untouched() if os.getuid() == 0 else contextlib.nullcontext():
-            for verb, *rest in READING[:2] + WRITING:
+            for verb, *rest in READING[:2] + WRITING + MIGRATING:
                 with self.subTest(verb):
                     self.denied(verb, self.club, *rest)
 

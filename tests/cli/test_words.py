@@ -7,7 +7,7 @@ import unittest
 
 from common import PROGRAM, ROOT, SAMPLES, Case, run
 
-VERBS = "check show new set add remove rename move undo history diff tone callsign address".split()
+VERBS = "check show new set add remove rename move undo history migrate diff tone callsign address".split()
 
 
 def tours():

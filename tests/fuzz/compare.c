@@ -58,6 +58,17 @@ static void prevalidated_n(const uint8_t *file, size_t length, size_t n, size_t 
         second_bank_entry_prevalidated(file, length, n, SIZE_MAX)));
 }
 
+/* By the legacy reading, and the whole file after migrating it. */
+static void migrated(const uint8_t *bytes, size_t length)
+{
+    uint8_t *file = guarded(SLOT_FILE, at_start, bytes, length);
+    memcpy(other, file, length);
+    must(same_validate(codeplug_validate_legacy(file, length), second_validate_legacy(file, length)));
+    must(same_validate(codeplug_migrate(file, length), second_migrate(other, length)));
+    must(memcmp(file, other, length) == 0);
+    guarded_check(SLOT_FILE);
+}
+
 static void a_file(const uint8_t *bytes, size_t length, size_t size, size_t n)
 {
     const uint8_t *file = guarded(SLOT_FILE, at_start, bytes, length);
@@ -72,6 +83,7 @@ static void a_file(const uint8_t *bytes, size_t length, size_t size, size_t n)
     record_n(file, length, n, size);
     prevalidated_n(file, length, n, size);
     must(length == 0 || memcmp(file, bytes, length) == 0);
+    migrated(bytes, length);
 }
 
 static void files(struct input in)
@@ -80,16 +92,31 @@ static void files(struct input in)
     a_file(in.at, in.left, size, n);
 }
 
+/* A few bytes of a file changed. */
+static void change(struct input *in, uint8_t *file, size_t length)
+{
+    for (int i = 0; i < 4 && in->left > 0; i++) {
+        size_t at = take_number(in, 2) % length;
+        file[at] = take_byte(in);
+    }
+}
+
 /* A valid file of chosen counts, with a few bytes changed. */
 static void made_files(struct input in)
 {
     static uint8_t made[VALID_FILE_MOST];
     size_t n = take_place(&in), length = take_valid_file(&in, made);
-    for (int i = 0; i < 4 && in.left > 0; i++) {
-        size_t at = take_number(&in, 2) % length;
-        made[at] = take_byte(&in);
-    }
+    change(&in, made, length);
     a_file(made, length, CODEPLUG_TEXTS_SIZE, n);
+}
+
+/* The same of a legacy file. */
+static void made_legacy_files(struct input in)
+{
+    static uint8_t made[VALID_FILE_MOST];
+    size_t length = take_legacy_file(&in, made);
+    change(&in, made, length);
+    migrated(made, length);
 }
 
 static struct codeplug_edit_answer call(const struct opening *o, const struct call *c, uint8_t *room, uint8_t *history)
@@ -202,7 +229,7 @@ int LLVMFuzzerInitialize(int *argc, char ***argv)
 
 int LLVMFuzzerTestOneInput(const uint8_t *data, size_t size)
 {
-    enum { MADE = 120, TEXT = 126 };
+    enum { MADE = 120, LEGACY = 124, TEXT = 126 };
     static void (*const what[])(struct input) = {files, calls, contact, channel, address}, (*const more[])(struct input) = {text, history};
     struct input in = {data, size};
     uint8_t how = take_byte(&in);
@@ -211,6 +238,11 @@ int LLVMFuzzerTestOneInput(const uint8_t *data, size_t size)
     blocks_again();
     at_start = how >= 128;
     how %= 128;
-    how < MADE ? what[how % 5](in) : how < TEXT ? made_files(in) : more[how - TEXT](in);
+    if (how < MADE)
+        what[how % 5](in);
+    else if (how < TEXT)
+        how < LEGACY ? made_files(in) : made_legacy_files(in);
+    else
+        more[how - TEXT](in);
     return 0;
 }

@@ -5,6 +5,8 @@
 #include "codeplug.h"
 
 struct codeplug_validate_answer second_validate(const uint8_t *file, size_t length);
+struct codeplug_validate_answer second_validate_legacy(const uint8_t *file, size_t length);
+struct codeplug_validate_answer second_migrate(uint8_t *file, size_t length);
 struct codeplug_header_answer second_header(const uint8_t *file, size_t length, uint8_t *texts, size_t size);
 struct codeplug_contact_answer second_contact(const uint8_t *file, size_t length, size_t n, uint8_t *name, size_t size);
 struct codeplug_channel_answer second_channel(const uint8_t *file, size_t length, size_t n, uint8_t *texts, size_t size);

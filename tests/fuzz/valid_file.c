@@ -2,6 +2,7 @@
 #include "valid_file.h"
 
 #include "codeplug.h"
+#include "legacy.h"
 #include "must.h"
 
 enum { CONTACTS = 16, CHANNELS = 32, BANKS = 12, ENTRIES = 40 };
@@ -80,4 +81,17 @@ size_t take_valid_file(struct input *in, uint8_t file[VALID_FILE_MOST])
     }
     must(codeplug_validate(file, (size_t)(at - file)).number == CODEPLUG_OK);
     return (size_t)(at - file);
+}
+
+size_t take_legacy_file(struct input *in, uint8_t file[VALID_FILE_MOST])
+{
+    size_t length = take_valid_file(in, file), pick = take_byte(in);
+    struct codeplug_validate_answer counts = codeplug_validate(file, length);
+    for (size_t n = 0; n < settings_records(counts); n++) {
+        size_t at = settings_place(file, counts, n);
+        if (at > 0)
+            file[at] = legacy_settings[(pick + n) % SETTINGS];
+    }
+    must(codeplug_validate_legacy(file, length).number == CODEPLUG_OK);
+    return length;
 }

@@ -101,8 +101,8 @@ fn contact<'a, T: Text<'a>>(c: &'a [u8; 39]) -> Contact<T> {
         name: T::of(&c[..32]),
         mode: mode(c[32]),
         number: if m17 { address } else { u32_at(c, 33).into() },
-        contact_type: if m17 { 0 } else { c[37] >> 6 },
-        rx_tone: !m17 && c[37] & 0x20 != 0,
+        contact_type: if m17 { 0 } else { c[37] & 0x03 },
+        rx_tone: !m17 && c[37] & 0x04 != 0,
     }
 }
 
@@ -120,8 +120,8 @@ fn channel<'a, T: Text<'a>>(c: &'a [u8; 90]) -> Channel<T> {
     };
     Channel {
         mode: mode(c[0]),
-        bandwidth: c[1] >> 6,
-        receive_only: c[1] & 0x20 != 0,
+        bandwidth: c[1] & 0x03,
+        receive_only: c[1] & 0x04 != 0,
         power: c[2],
         frequencies: [u32_at(c, 3), u32_at(c, 7)],
         lists: [c[11], c[12]],

@@ -5,9 +5,17 @@ use obcf_second::{Counts, Refusal, LONGEST};
 
 /// The counts of a valid file, or its refusal.
 pub fn validate(file: &[u8]) -> Result<Counts, Refusal> {
-    match counts(file) {
+    match counts(file, settings) {
         Some(counts) => Ok(counts),
         None => obcf_second::codeplug::validate(file),
+    }
+}
+
+/// The same by the legacy reading.
+pub fn validate_legacy(file: &[u8]) -> Result<Counts, Refusal> {
+    match counts(file, legacy_settings) {
+        Some(counts) => Ok(counts),
+        None => obcf_second::legacy::validate_legacy(file),
     }
 }
 
@@ -15,7 +23,8 @@ fn u16_at(bytes: &[u8], at: usize) -> u16 {
     u16::from_le_bytes([bytes[at], bytes[at + 1]])
 }
 
-fn counts(file: &[u8]) -> Option<Counts> {
+/// `settings` is the reading's test of traits and contact settings.
+fn counts(file: &[u8], settings: impl Fn(u8) -> bool) -> Option<Counts> {
     let (header, rest) = file.split_first_chunk::<88>()?;
     let begins = file.len() <= LONGEST && header[..10] == *b"RTXC\0\0\0\0\x01\0";
     if !begins || !text(&header[10..]) || !text(&header[42..]) {
@@ -30,12 +39,12 @@ fn counts(file: &[u8]) -> Option<Counts> {
     let (channels, rest) = rest.split_at_checked(90 * usize::from(counts.channels))?;
     let (offsets, banks) = rest.split_at_checked(4 * usize::from(counts.banks))?;
     let contacts = contacts.as_chunks::<39>().0;
-    let all = contacts.iter().all(contact)
+    let all = contacts.iter().all(|c| contact(c, &settings))
         && channels
             .as_chunks::<90>()
             .0
             .iter()
-            .all(|c| channel(c, contacts));
+            .all(|c| channel(c, contacts, &settings));
     if !all {
         return None;
     }
@@ -66,12 +75,17 @@ fn text(field: &[u8]) -> bool {
     !foreign & !resumed
 }
 
-/// Two bits of at most 2, a flag and five zeros.
+/// Two bits of at most 2, a flag and five zeros, from the bottom.
 fn settings(byte: u8) -> bool {
+    byte & 0x03 <= 2 && byte & 0xF8 == 0
+}
+
+/// The same from the top.
+fn legacy_settings(byte: u8) -> bool {
     byte >> 6 <= 2 && byte & 0x1F == 0
 }
 
-fn contact(c: &[u8; 39]) -> bool {
+fn contact(c: &[u8; 39], settings: impl Fn(u8) -> bool) -> bool {
     let [address @ .., _, _] = [c[33], c[34], c[35], c[36], c[37], c[38], 0, 0];
     let values = match c[32] {
         1 => settings(c[37]) && c[38] == 0,
@@ -81,7 +95,7 @@ fn contact(c: &[u8; 39]) -> bool {
     values && text(c)
 }
 
-fn channel(c: &[u8; 90], contacts: &[[u8; 39]]) -> bool {
+fn channel(c: &[u8; 90], contacts: &[[u8; 39]], settings: impl Fn(u8) -> bool) -> bool {
     let names = |at: usize| {
         let index = u16_at(c, at);
         index == 65_535

@@ -30,8 +30,8 @@ extern "C" {
 #endif
 
 /* The version of this header. A library of the same major version, and of this minor version or a later, has every function of it:
- * codeplug_version() tells which one is linked. */
-#define CODEPLUG_VERSION_MAJOR 1
+ * codeplug_version() tells which one is linked. Files that this library wrote before version 2 are migrated first, see "legacy files". */
+#define CODEPLUG_VERSION_MAJOR 2
 #define CODEPLUG_VERSION_MINOR 0
 #define CODEPLUG_VERSION_PATCH 0
 #define CODEPLUG_VERSION_NUMBER (CODEPLUG_VERSION_MAJOR << 16 | CODEPLUG_VERSION_MINOR << 8 | CODEPLUG_VERSION_PATCH)
@@ -329,6 +329,30 @@ struct codeplug_channel_answer codeplug_channel_prevalidated(const uint8_t *file
 struct codeplug_bank_answer codeplug_bank_prevalidated(const uint8_t *file, size_t file_length, size_t n, uint8_t *name,
     size_t name_length);
 struct codeplug_bank_entry_answer codeplug_bank_entry_prevalidated(const uint8_t *file, size_t file_length, size_t bank, size_t i);
+
+/* ---- legacy files. A channel's traits (offset 1 of its record) hold the bandwidth in bits 0 and 1 and receive-only in bit 2; a DMR
+ * contact's settings (offset 37) hold the contact type in bits 0 and 1 and rx tone in bit 2: as radios read them. Before version 2 this
+ * library had the numbers in bits 7 and 6 and the flags in bit 5. A file that was written so is a legacy file, and reading it so is the
+ * legacy reading. The two functions here go by it, all others by the new reading alone.
+ *
+ * A legacy file is migrated once, before anything else is done with it. Throw its history away (`used` 0), also where the file needs no
+ * migrating: its entries hold legacy bytes, so undo may be refused, 39, or bring back a wrong file. Files alone are migrated, not records
+ * that were stored by themselves.
+ *
+ * Nothing in a file says how it was written. To find out, validate it by both readings; bindings/c/migrate.c is an example. Accepted
+ * - by codeplug_validate_legacy alone: a legacy file, to be migrated;
+ * - by codeplug_validate alone: not a legacy file, and nothing is to be done;
+ * - by both: all traits and settings are 0 and read the same either way, so nothing is to be done, and migrating changes no byte;
+ * - by neither: the file is damaged, or is no codeplug.
+ * So migrating twice is refused, 7, or changes nothing. */
+
+/* Whether a file is accepted by the legacy reading, and its counts. Refusals: those of the file, 1 to 12, by that reading. */
+struct codeplug_validate_answer codeplug_validate_legacy(const uint8_t *file, size_t file_length);
+
+/* The same answer, and an accepted file is migrated in place: traits and settings change, so that every field reads by the new reading as
+ * it did by the legacy one; every other byte stays. A refused file is not touched. Of a codeplug in a room, file_length is the codeplug's
+ * own length, without the spare bytes. */
+struct codeplug_validate_answer codeplug_migrate(uint8_t *file, size_t file_length);
 
 /* ---- writing what the edits carry: 25 first, then the fields in the record's order */
 

@@ -73,6 +73,8 @@ extern "C" {
     ) -> ChannelAnswer;
     pub fn codeplug_bank_prevalidated(file: *const u8, file_length: usize, n: usize, name: *mut u8, name_length: usize) -> BankAnswer;
     pub fn codeplug_bank_entry_prevalidated(file: *const u8, file_length: usize, bank: usize, i: usize) -> BankEntryAnswer;
+    pub fn codeplug_validate_legacy(file: *const u8, file_length: usize) -> ValidateAnswer;
+    pub fn codeplug_migrate(file: *mut u8, file_length: usize) -> ValidateAnswer;
     pub fn codeplug_write_contact(out: *mut u8, out_length: usize, name: *const u8, name_length: usize, values: ContactValues) -> Refusal;
     pub fn codeplug_write_channel(
         out: *mut u8,

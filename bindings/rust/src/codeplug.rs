@@ -17,7 +17,8 @@ pub struct Codeplug {
 impl Codeplug {
     /// Opens a file, with as many spare bytes for edits (never past the longest file) and a history of the size given. Where the history is
     /// full, the oldest edits can no longer be undone. An edit whose own entry is longer than the history is refused, 37: an insertion or
-    /// removal may need as much as the file's length and 9 bytes. Refusals: the file's, 1 to 12.
+    /// removal may need as much as the file's length and 9 bytes. Refusals: the file's, 1 to 12. A legacy file is
+    /// [migrated](crate::migrate) first.
     pub fn open(file: &[u8], spare: usize, history_size: usize) -> Result<Codeplug, Refused> {
         Codeplug::restore(file, &[], spare, history_size)
     }
@@ -29,7 +30,7 @@ impl Codeplug {
 
     /// Opens a file with the history that was stored beside it, so that its edits can be undone. There are at least as many spare bytes as
     /// undo may need, and the history is at least as long as the one stored. Refusals: the file's, 31. Whether an entry fits the codeplug,
-    /// only `undo` finds out, 39.
+    /// only `undo` finds out, 39. The history of a legacy file is not that of the file it is [migrated](crate::migrate) to.
     pub fn restore(file: &[u8], history: &[u8], spare: usize, history_size: usize) -> Result<Codeplug, Refused> {
         read::validate(file)?;
         let entries = buffers::history_entries(history)?;

@@ -15,12 +15,35 @@
 //! assert_eq!(codeplug.bytes(), file);
 //! # Ok::<(), Refused>(())
 //! ```
+//!
+//! # Legacy files
+//!
+//! A channel's bandwidth and a DMR contact's type stand in bits 0 and 1 of their byte, receive-only and rx tone in bit 2, as radios read
+//! them. Before version 2 they stood in bits 7 and 6, and in bit 5. A file that was written so is a legacy file: it is migrated once,
+//! before anything else is done with it, and its history is thrown away, since the entries are of the legacy bytes. [`validate_legacy`] and
+//! [`migrate`] go by that legacy reading, everything else in this crate by the new one alone.
+//!
+//! Nothing in a file says how it was written. To find out, validate it by both readings. Accepted by [`validate_legacy`] alone it is a
+//! legacy file. Where [`validate`] accepts it, nothing is to be done; where both do, each of those bytes is 0 and reads the same either
+//! way. The example `migrate` says which it is.
+//!
+//! ```
+//! use codeplug::{migrate, validate, validate_legacy, Codeplug, Refused};
+//!
+//! let mut file = std::fs::read("../../samples/club-legacy.rtxc").unwrap();
+//! if validate(&file).is_err() && validate_legacy(&file).is_ok() {
+//!     migrate(&mut file)?;
+//! }
+//! assert_eq!(Codeplug::open(&file, 0, 0)?.channel(2)?.bandwidth, 2);
+//! # Ok::<(), Refused>(())
+//! ```
 mod address;
 mod buffers;
 mod channel;
 mod codeplug;
 mod contact;
 mod empty;
+mod legacy;
 mod read;
 mod refused;
 mod text;
@@ -37,6 +60,7 @@ pub use channel::{write_channel, Channel, Info};
 pub use codeplug::Codeplug;
 pub use contact::{write_contact, Contact, ContactInfo};
 pub use empty::write_empty;
+pub use legacy::{migrate, validate_legacy};
 pub use read::{bank, bank_entry, channel, contact, entries, header, validate, Bank, Counts, Entry, Header};
 pub use refused::Refused;
 pub use text::write_text;

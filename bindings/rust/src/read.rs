@@ -35,7 +35,11 @@ pub struct Entry {
 
 /// Whether a file is accepted, and its counts.
 pub fn validate(file: &[u8]) -> Result<Counts, Refused> {
-    let a = unsafe { c::codeplug_validate(file.as_ptr(), file.len()) };
+    counts(unsafe { c::codeplug_validate(file.as_ptr(), file.len()) })
+}
+
+/// The counts of a file that was accepted, by either reading.
+pub(crate) fn counts(a: c::ValidateAnswer) -> Result<Counts, Refused> {
     accepted(a.number, a.place, Counts { contacts: a.contacts, channels: a.channels, banks: a.banks })
 }
 

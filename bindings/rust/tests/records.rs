@@ -24,6 +24,19 @@ fn every_sample_record_is_written_as_it_was() {
     }
 }
 
+/// The number stands in bits 0 and 1, the flag in bit 2.
+#[test]
+fn traits_and_settings() {
+    for (number, flag, byte) in [(0, false, 0), (1, false, 1), (2, false, 2), (0, true, 4), (1, true, 5), (2, true, 6)] {
+        for channel in [fm(""), dmr_channel(None), m17_channel(None)] {
+            let record = write_channel(&Channel { bandwidth: number, receive_only: flag, ..channel }).unwrap();
+            assert_eq!(record[1], byte);
+        }
+        let info = ContactInfo::Dmr { id: 1, contact_type: number, rx_tone: flag };
+        assert_eq!(write_contact(&Contact { name: "".into(), info }).unwrap()[37], byte);
+    }
+}
+
 #[test]
 fn contacts_refused() {
     let name = |name: &str| write_contact(&dmr(name, 1)).map(|_| ());

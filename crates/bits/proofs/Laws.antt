@@ -44,49 +44,49 @@ number-flag-low c h = leb-true _ _ h
 same-number-flag : (m n : ℕ) (f g : Bool) → m ≡ n → f ≡ g → _≡_ {A = NumberFlag} (record { number = m; flag = f }) (record { number = n; flag = g })
 same-number-flag m n f g p q = rw (p, q)
 
-number-flag-of-parts : (n : ℕ) (f : Bool) → numberFlagOf (n * 64 + cond f 32 0) ≡ record { number = n; flag = f }
+number-flag-of-parts : (n : ℕ) (f : Bool) → n ≤ 2 → numberFlagOf (n + cond f 4 0) ≡ record { number = n; flag = f }
 unfolding numberFlagOf
-number-flag-of-parts n true =
-    let z : (n * 64 + 32) / 32 % 2 ≡ 1 = omega arith in
+number-flag-of-parts n true h =
+    let z : (n + 4) / 4 % 2 ≡ 1 = omega arith in
     same-number-flag _ n _ true (omega arith) (rw z)
-number-flag-of-parts n false =
-    let z : (n * 64 + 0) / 32 % 2 ≡ 0 = omega arith in
+number-flag-of-parts n false h =
+    let z : (n + 0) / 4 % 2 ≡ 0 = omega arith in
     same-number-flag _ n _ false (omega arith) (rw z)
 
-flag-step : (f : Bool) → cond f 32 0 % 32 ≡ 0
+flag-step : (f : Bool) → cond f 4 0 % 4 ≡ 0
 flag-step true = refl
 flag-step false = refl
 
-flag-most : (f : Bool) → cond f 32 0 ≤ 32
+flag-most : (f : Bool) → cond f 4 0 ≤ 4
 flag-most true = omega arith
 flag-most false = omega arith
 
-flag-bit : (x : ℕ) → x < 2 → cond (eqb x 1) 32 0 ≡ 32 * x
+flag-bit : (x : ℕ) → x < 2 → cond (eqb x 1) 4 0 ≡ 4 * x
 flag-bit zero h = refl
 flag-bit (suc zero) h = refl
 flag-bit (suc (suc x)) h = absurd (omega arith)
 
 pub number-flag-returns : (c : NumberFlag) → numberFlagValid c ≡ true → numberFlagOf (numberFlagByte c) ≡ c
 unfolding numberFlagByte
-number-flag-returns c h = number-flag-of-parts (c .number) (c .flag)
+number-flag-returns c h = number-flag-of-parts (c .number) (c .flag) (number-flag-low c h)
 
 pub number-flag-ok : (c : NumberFlag) → numberFlagValid c ≡ true → numberFlagOk (numberFlagByte c) ≡ true
 unfolding numberFlagByte numberFlagOk
 number-flag-ok c h =
-    let b : ℕ = c .number * 64 + cond (c .flag) 32 0 in
-    let n : b / 64 ≤ 2 = omega (arith, number-flag-low c h, flag-most (c .flag)) in
-    let z : b % 32 ≡ 0 = omega (arith, flag-step (c .flag)) in
-    and-both (leb (b / 64) 2) (eqb (b % 32) 0) (le-leb _ _ n) (eq-eqb _ _ z)
+    let b : ℕ = c .number + cond (c .flag) 4 0 in
+    let n : b % 4 ≤ 2 = omega (arith, number-flag-low c h, flag-step (c .flag)) in
+    let z : b / 8 ≡ 0 = omega (arith, number-flag-low c h, flag-most (c .flag)) in
+    and-both (leb (b % 4) 2) (eqb (b / 8) 0) (le-leb _ _ n) (eq-eqb _ _ z)
 
 pub numberFlagByte-of : (b : ℕ) → numberFlagOk b ≡ true → b < 256 → numberFlagByte (numberFlagOf b) ≡ b
 unfolding numberFlagByte numberFlagOf numberFlagOk
 numberFlagByte-of b h l =
-    let z : b % 32 ≡ 0 = eqb-true _ 0 (and-right (leb (b / 64) 2) _ h) in
-    rw (flag-bit (b / 32 % 2) (omega arith)) (omega arith)
+    let z : b / 8 ≡ 0 = eqb-true _ 0 (and-right (leb (b % 4) 2) _ h) in
+    rw (flag-bit (b / 4 % 2) (omega arith)) (omega arith)
 
 pub numberFlagValid-of : (b : ℕ) → numberFlagOk b ≡ true → numberFlagValid (numberFlagOf b) ≡ true
 unfolding numberFlagValid numberFlagOf numberFlagOk
-numberFlagValid-of b h = and-left _ (eqb (b % 32) 0) h
+numberFlagValid-of b h = and-left _ (eqb (b / 8) 0) h
 
 pub numberFlagByte-lt : (c : NumberFlag) → numberFlagValid c ≡ true → numberFlagByte c < 256
 unfolding numberFlagByte

@@ -6,16 +6,16 @@ use lib.IntN.{ℤ, pos, negsuc}
 use Rattle.bits.specs.declared.NumberFlag.{NumberFlag}
 use Rattle.bits.specs.declared.Nibbles.{Nibbles}
 
--- ---- traits and settings: a number in bits 7 and 6 (0 to 2), a flag in bit 5, the rest zero. What request [5] of document 02 moves.
+-- ---- traits and settings (document 02, [5]): a number in bits 0 and 1 (0 to 2), a flag in bit 2, the other five bits zero
 
 unfoldable pub numberFlagOf : ℕ → NumberFlag
-numberFlagOf b = record { number = b / 64; flag = eqb (b / 32 % 2) 1 }
+numberFlagOf b = record { number = b % 4; flag = eqb (b / 4 % 2) 1 }
 
 unfoldable pub numberFlagByte : NumberFlag → ℕ
-numberFlagByte c = c .number * 64 + cond (c .flag) 32 0
+numberFlagByte c = c .number + cond (c .flag) 4 0
 
 unfoldable pub numberFlagOk : ℕ → Bool
-numberFlagOk b = leb (b / 64) 2 && eqb (b % 32) 0
+numberFlagOk b = leb (b % 4) 2 && eqb (b / 8) 0
 
 -- a number that the rule allows
 unfoldable pub numberFlagValid : NumberFlag → Bool

@@ -3,7 +3,7 @@ ghost use mathlib.Core.Path.{_≡_};
 ghost use mathlib.Core.Bool.{true};
 ghost use Rattle.bits.specs.Packed.{numberFlagOf, numberFlagByte, numberFlagOk, numberFlagValid, nibblesOf, nibblesByte, nibblesValid, signedOf, signedByte};
 
-// Traits and settings: a number of two bits and a flag.
+// Traits and settings: a number in bits 0 and 1, a flag in bit 2 (document 02, [5]).
 pub struct NumberFlag {
     pub number: u8,
     pub flag: bool,
@@ -20,8 +20,8 @@ pub fn number_flag_of(b: u8) -> NumberFlag
     ensures { λ r. ⌜ r ≡ numberFlagOf b ⌝ }
 {
     NumberFlag {
-        number: b >> 6,
-        flag: (b >> 5) & 1 == 1,
+        number: b & 3,
+        flag: (b >> 2) & 1 == 1,
     }
 }
 
@@ -29,15 +29,14 @@ pub fn number_flag_byte(c: NumberFlag) -> u8
     requires { ⌜ numberFlagValid c ≡ true ⌝ }
     ensures { λ r. ⌜ r ≡ numberFlagByte c ⌝ }
 {
-    let top = c.number << 6;
-    if c.flag { top | 32 } else { top }
+    if c.flag { 4 | c.number } else { c.number }
 }
 
 // Whether a byte holds such a number and flag: the number at most 2, the other bits zero.
 pub fn number_flag_ok(b: u8) -> bool
     ensures { λ r. ⌜ r ≡ numberFlagOk b ⌝ }
 {
-    b >> 6 <= 2 && b & 31 == 0
+    (b & 3 <= 2) & (b >> 3 == 0)
 }
 
 pub fn number_flag_valid(c: NumberFlag) -> bool

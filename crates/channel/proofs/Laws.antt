@@ -17,7 +17,7 @@ use Rattle.bits.specs.Packed.{signedOf, numberFlagOk, nibblesOf}
 use Rattle.bits.proofs.Laws.{signedOf-low, signedOf-high, and-left, and-right, and-both}
 use Rattle.tones.specs.Tone.{toneOk}
 use Rattle.channel.specs.Values.{modeOk, latitudeOk, isNinety, fractionOk, latitudeFractionOk, slotOk, operationOk, encryptionOk, contactIndexOf}
-use Rattle.channel.specs.Rule.{headRule, textsRule, locationRule, fmRule, dmrRule, m17Rule, infoRule, channelRule, namedContact}
+use Rattle.channel.specs.Rule.{headRule, textsRule, locationRule, fmRule, dmrRule, m17Rule, infoRule, channelRuleBy, channelRule, namedContact}
 use Rattle.channel.specs.declared.ContactIndex.the-variants.{Nobody}
 
 -- ---- a latitude by its byte
@@ -367,21 +367,6 @@ module _ (s : List ℕ) where
 
 -- ---- whether the index names a contact is asked of a DMR or M17 record that holds its index whole, and of no other
 
-refused-first : (left base k n number : ℕ) (u v w : Validity)
-    → (fieldOf left base k n number false then u) then v ≡ (fieldOf left base k n number false then u) then w
-unfolding fieldOf unless _then_
-refused-first left base k n number u v w = by (leb (k + n) left)
-  where
-    by : (t : Bool)
-        → ((cond t (Refused number (base + k)) (Refused 2 (base + k)) then u) then v)
-        ≡ ((cond t (Refused number (base + k)) (Refused 2 (base + k)) then u) then w)
-    by true = refl
-    by false = refl
-
-mode-refused : (s : List ℕ) (base : ℕ) → leb (getD s 0 0) 2 ≡ false → (v w : Validity) → headRule s base then v ≡ headRule s base then w
-unfolding headRule modeOk
-mode-refused s base e v w = rw e (refused-first (length s) base 0 1 6 _ v w)
-
 module _ (s : List ℕ) (base : ℕ) (a b : Bool) where
   index-asked : (k : ℕ) → (k + 2 ≤ length s → a ≡ b) → field s base k 2 9 a ≡ field s base k 2 9 b
   index-asked k h = by (leb (k + 2) (length s)) refl
@@ -401,16 +386,19 @@ module _ (s : List ℕ) (base : ℕ) (a b : Bool) where
     unfolding m17Rule
     m17-asked e = rw (index-asked 88 (m e))
 
-    pub named-unread : channelRule s base a ≡ channelRule s base b
-    unfolding channelRule
-    named-unread =
-        by-mode (channelRule s base a ≡ channelRule s base b) (getD s 0 0)
+    info-unread : getD s 0 0 ≤ 2 → infoRule s base a ≡ infoRule s base b
+    info-unread h =
+        by-mode (infoRule s base a ≡ infoRule s base b) (getD s 0 0)
         (λ e. rw (info-fm s base a e, info-fm s base b e))
         (λ e. rw (info-dmr s base a e, info-dmr s base b e, dmr-asked e))
-        (λ l. above (leb (getD s 0 0) 2) refl l)
-      where
-        above : (t : Bool) → leb (getD s 0 0) 2 ≡ t → 2 ≤ getD s 0 0 → channelRule s base a ≡ channelRule s base b
-        above true e l =
-            let h = leb-true (getD s 0 0) 2 e in
-            rw (info-m17 s base a l, info-m17 s base b l, m17-asked (omega arith))
-        above false e l = mode-refused s base e _ _
+        (λ l. rw (info-m17 s base a l, info-m17 s base b l, m17-asked (omega arith)))
+
+    -- whatever refuses the head, if it refuses a mode that is not there
+    pub named-unread-by : (head : Validity) → (head ≡ Valid → getD s 0 0 ≤ 2) → channelRuleBy head s base a ≡ channelRuleBy head s base b
+    unfolding _then_
+    named-unread-by Valid h = rw (info-unread (h refl))
+    named-unread-by (Refused n p) h = refl
+
+    pub named-unread : channelRule s base a ≡ channelRule s base b
+    unfolding channelRule
+    named-unread = named-unread-by (headRule s base) (λ h. valid-head s base h .0)

@@ -17,15 +17,19 @@ use Rattle.channel.specs.Values.{modeOk, scanListOk, groupListOk, latitu
 
 -- ---- the rule: fields in file order
 
-unfoldable pub headRule : List ℕ → ℕ → Validity
-headRule s base =
+-- by whether the traits byte is within its rule
+abbrev pub headRuleBy : Bool → List ℕ → ℕ → Validity
+headRuleBy traitsOk s base =
     field s base 0 1 6 (modeOk (getD s 0 0))
-    then field s base 1 1 7 (numberFlagOk (getD s 1 0))
+    then field s base 1 1 7 traitsOk
     then inside s base 2 1
     then inside s base 3 4
     then inside s base 7 4
     then field s base 11 1 7 (scanListOk (getD s 11 0))
     then field s base 12 1 7 (groupListOk (getD s 12 0))
+
+unfoldable pub headRule : List ℕ → ℕ → Validity
+headRule s base = headRuleBy (numberFlagOk (getD s 1 0)) s base
 
 unfoldable pub textsRule : List ℕ → ℕ → Validity
 textsRule s base =
@@ -72,9 +76,13 @@ infoRule s base named =
     (cond (eqb (getD s 0 0) 1) (dmrRule s base named)
     (m17Rule s base named))
 
+-- by what refuses its head
+abbrev pub channelRuleBy : Validity → List ℕ → ℕ → Bool → Validity
+channelRuleBy head s base named = head then textsRule s base then locationRule s base then infoRule s base named
+
 -- what reading a channel's bytes s refuses, a record that starts at base
 unfoldable pub channelRule : List ℕ → ℕ → Bool → Validity
-channelRule s base named = headRule s base then textsRule s base then locationRule s base then infoRule s base named
+channelRule s base named = channelRuleBy (headRule s base) s base named
 
 -- ---- the contact index of a record
 

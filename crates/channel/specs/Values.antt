@@ -17,7 +17,7 @@ use Rattle.channel.specs.declared.ContactIndex.the-variants as contact
 unfoldable pub modeOk : ℕ → Bool
 modeOk m = leb m 2
 
--- traits: bandwidth in bits 7 and 6 (0 to 2), receive-only in bit 5, the rest zero
+-- traits: bandwidth in bits 0 and 1 (0 to 2), receive-only in bit 2, the rest zero (document 02, [5])
 unfoldable pub traitsOf : ℕ → Traits
 traitsOf b = record { bandwidth = numberFlagOf b .number; «receive_only» = numberFlagOf b .flag }
 

@@ -11,6 +11,7 @@ use Rattle.fields.specs.declared.rule.Validity.the-variants.{Valid, Refused}
 use Rattle.bits.specs.Packed.{nibblesOf, signedOf}
 use Rattle.tones.specs.Tone.{toneOf}
 use Rattle.tones.specs.declared.Tone.the-variants.{Disabled}
+use Rattle.channel.specs.declared.Traits.{Traits}
 use Rattle.channel.specs.declared.Location.{Location}
 use Rattle.channel.specs.declared.Common.{Common}
 use Rattle.channel.specs.declared.ContactIndex.the-variants as contact
@@ -35,10 +36,11 @@ locationOf s =
       «altitude_plus_500» = num s 83 2;
     }
 
-unfoldable pub commonOf : List ℕ → Common
-commonOf s =
+-- by its traits
+abbrev pub commonOfBy : Traits → List ℕ → Common
+commonOfBy traits s =
     record {
-      traits = traitsOf (getD s 1 0);
+      traits = traits;
       power = getD s 2 0;
       «receive_hz» = num s 3 4;
       «transmit_hz» = num s 7 4;
@@ -46,6 +48,9 @@ commonOf s =
       «group_list» = getD s 12 0;
       location = locationOf s;
     }
+
+unfoldable pub commonOf : List ℕ → Common
+commonOf s = commonOfBy (traitsOf (getD s 1 0)) s
 
 unfoldable pub fmOf : List ℕ → FmInfo
 fmOf s = record { receive = toneOf (getD s 85 0); transmit = toneOf (getD s 86 0) }
@@ -66,8 +71,12 @@ m17Of s =
 unfoldable pub infoOf : List ℕ → Info
 infoOf s = cond (eqb (getD s 0 0) 0) (Fm (fmOf s)) (cond (eqb (getD s 0 0) 1) (Dmr (dmrOf s)) (M17 (m17Of s)))
 
+-- by its common fields
+abbrev pub channelOfBy : Common → List ℕ → Channel
+channelOfBy common s = record { name = part s 13 32; description = part s 45 32; common = common; info = infoOf s }
+
 unfoldable pub channelOf : List ℕ → Channel
-channelOf s = record { name = part s 13 32; description = part s 45 32; common = commonOf s; info = infoOf s }
+channelOf s = channelOfBy (commonOf s) s
 
 -- what stands beside a refusal: receive-only, both tones disabled, everything else zero
 unfoldable pub blankChannel : Channel

@@ -21,15 +21,15 @@ use text::text_field;
 use tones::tone_ok;
 ghost use mathlib.Core.Path.{_≡_};
 ghost use Prim.Native.Nat.{_<_, _^_};
-ghost use Rattle.channel.specs.Rule.{headRule, textsRule, locationRule, fmRule, dmrRule, m17Rule, infoRule, channelRule};
+ghost use Rattle.channel.specs.Rule.{headRuleBy, textsRule, locationRule, fmRule, dmrRule, m17Rule, infoRule, channelRuleBy, channelRule};
 
-fn validate_head(s: &[u8], base: usize) -> Validity
+fn validate_head(s: &[u8], base: usize, traits: bool) -> Validity
     requires { ⌜ base < 2 ^ 62 ⌝ }
-    ensures { λ r. ⌜ r ≡ headRule (now (s .entry)) base ⌝ }
+    ensures { λ r. ⌜ r ≡ headRuleBy traits (now (s .entry)) base ⌝ }
 {
     let left = s.len();
     let mode = field(left, base, 0, 1, MODE, byte_at(s, 0) <= 2);
-    let traits = field(left, base, 1, 1, VALUE, bits::number_flag_ok(byte_at(s, 1)));
+    let bandwidth = field(left, base, 1, 1, VALUE, traits);
     let power = field(left, base, 2, 1, VALUE, true);
     let receive = field(left, base, 3, 4, VALUE, true);
     let transmit = field(left, base, 7, 4, VALUE, true);
@@ -38,7 +38,7 @@ fn validate_head(s: &[u8], base: usize) -> Validity
     first(
         mode,
         first(
-            traits,
+            bandwidth,
             first(power, first(receive, first(transmit, first(scan, group)))),
         ),
     )
@@ -129,13 +129,21 @@ fn validate_info(s: &[u8], base: usize, named: bool) -> Validity
     validate_m17(s, base, named)
 }
 
-pub fn validate(s: &[u8], base: usize, named: bool) -> Validity
+// Whether the traits byte is within its rule comes in as `traits`.
+pub fn validate_by(s: &[u8], base: usize, named: bool, traits: bool) -> Validity
     requires { ⌜ base < 2 ^ 62 ⌝ }
-    ensures { λ r. ⌜ r ≡ channelRule (now (s .entry)) base named ⌝ }
+    ensures { λ r. ⌜ r ≡ channelRuleBy (headRuleBy traits (now (s .entry)) base) (now (s .entry)) base named ⌝ }
 {
-    let head = validate_head(s, base);
+    let head = validate_head(s, base, traits);
     let texts = validate_texts(s, base);
     let location = validate_location(s, base);
     let info = validate_info(s, base, named);
     first(head, first(texts, first(location, info)))
+}
+
+pub fn validate(s: &[u8], base: usize, named: bool) -> Validity
+    requires { ⌜ base < 2 ^ 62 ⌝ }
+    ensures { λ r. ⌜ r ≡ channelRule (now (s .entry)) base named ⌝ }
+{
+    validate_by(s, base, named, bits::number_flag_ok(byte_at(s, 1)))
 }

@@ -13,13 +13,13 @@ ghost use mathlib.Core.Path.{_≡_};
 ghost use Prim.Native.Nat.{ℕ};
 ghost use lib.ListN.{length};
 ghost use Rattle.fields.specs.Rule.{isValid};
-ghost use Rattle.channel.specs.Rule.{headRule, textsRule, locationRule, fmRule, dmrRule, m17Rule, infoRule, channelRule};
+ghost use Rattle.channel.specs.Rule.{headRuleBy, textsRule, locationRule, fmRule, dmrRule, m17Rule, infoRule, channelRuleBy, channelRule};
 
-fn head_valid(s: &[u8]) -> bool
+fn head_valid(s: &[u8], traits: bool) -> bool
     requires { ⌜ length (now s) ≡ 90 ⌝ }
-    ensures { λ r. ⌜ ((base : ℕ) → r ≡ isValid (headRule (now (s .entry)) base)) ⌝ }
+    ensures { λ r. ⌜ ((base : ℕ) → r ≡ isValid (headRuleBy traits (now (s .entry)) base)) ⌝ }
 {
-    (s[0] <= 2) & (bits::number_flag_ok(s[1]) & ((s[11] <= 250) & (s[12] <= 128)))
+    (s[0] <= 2) & (traits & ((s[11] <= 250) & (s[12] <= 128)))
 }
 
 fn texts_valid(s: &[u8]) -> bool
@@ -75,13 +75,23 @@ fn info_valid(s: &[u8], named: bool) -> bool
     pick(s[0] == channel::FM, fm_valid(s), digital)
 }
 
-// Of a channel's 90 bytes. Whether its contact index names a contact of the file comes in as `named`.
+// Of a channel's 90 bytes. Whether its contact index names a contact of the file comes in as `named`, whether its traits byte is within its
+// rule as `traits`.
+pub fn is_valid_by(s: &[u8], named: bool, traits: bool) -> bool
+    requires { ⌜ length (now s) ≡ 90 ⌝ }
+    ensures { λ r. ⌜ ((base : ℕ) → r ≡ isValid (channelRuleBy (headRuleBy traits (now (s .entry)) base) (now (s .entry)) base named)) ⌝ }
+{
+    // for the compiler, which does not know the length where this is not compiled into its caller
+    let all = &s[0..90];
+    let head = head_valid(all, traits);
+    let texts = texts_valid(all);
+    let location = location_valid(all);
+    head & (texts & (location & info_valid(all, named)))
+}
+
 pub fn is_valid(s: &[u8], named: bool) -> bool
     requires { ⌜ length (now s) ≡ 90 ⌝ }
     ensures { λ r. ⌜ ((base : ℕ) → r ≡ isValid (channelRule (now (s .entry)) base named)) ⌝ }
 {
-    let head = head_valid(s);
-    let texts = texts_valid(s);
-    let location = location_valid(s);
-    head & (texts & (location & info_valid(s, named)))
+    is_valid_by(s, named, bits::number_flag_ok(s[1]))
 }

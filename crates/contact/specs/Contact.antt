@@ -19,7 +19,7 @@ use Rattle.contact.specs.declared.ContactInfo.the-variants.{M17, Dmr}
 use Rattle.contact.specs.declared.Contact.{Contact}
 use Rattle.contact.specs.declared.ContactRead.{ContactRead}
 
--- ---- settings: contact type in bits 7 and 6 (0 to 2), rx tone in bit 5, the rest zero
+-- ---- settings: contact type in bits 0 and 1 (0 to 2), rx tone in bit 2, the rest zero (document 02, [5])
 
 unfoldable pub settingsOf : ℕ → Settings
 settingsOf b = record { «contact_type» = numberFlagOf b .number; «rx_tone» = numberFlagOf b .flag }
@@ -32,32 +32,48 @@ settingsNumberFlag t = record { number = t .«contact_type»; flag = t .«rx_ton
 unfoldable pub modeOk : ℕ → Bool
 modeOk m = eqb m 1 || eqb m 2
 
-unfoldable pub dmrRule : List ℕ → ℕ → Validity
-dmrRule s base =
+-- by whether the settings byte is within its rule
+abbrev pub dmrRuleBy : Bool → List ℕ → ℕ → Validity
+dmrRuleBy settingsOk s base =
     inside s base 33 4
-    then field s base 37 1 7 (numberFlagOk (getD s 37 0))
+    then field s base 37 1 7 settingsOk
     then field s base 38 1 7 (eqb (getD s 38 0) 0)
+
+unfoldable pub dmrRule : List ℕ → ℕ → Validity
+dmrRule s base = dmrRuleBy (numberFlagOk (getD s 37 0)) s base
 
 unfoldable pub m17Rule : List ℕ → ℕ → Validity
 m17Rule s base = field s base 33 6 8 (addressOk (big (part s 33 6)))
 
--- what reading a contact's bytes s refuses, a record that starts at base
-unfoldable pub contactRule : List ℕ → ℕ → Validity
-contactRule s base =
+-- by what refuses a DMR contact's info
+abbrev pub contactRuleBy : Validity → List ℕ → ℕ → Validity
+contactRuleBy dmr s base =
     field s base 0 32 5 (textOk (part s 0 32))
     then field s base 32 1 6 (modeOk (getD s 32 0))
-    then cond (eqb (getD s 32 0) 1) (dmrRule s base) (m17Rule s base)
+    then cond (eqb (getD s 32 0) 1) dmr (m17Rule s base)
+
+-- what reading a contact's bytes s refuses, a record that starts at base
+unfoldable pub contactRule : List ℕ → ℕ → Validity
+contactRule s base = contactRuleBy (dmrRule s base) s base
 
 -- ---- a valid record's value
 
-unfoldable pub infoOf : List ℕ → ContactInfo
-infoOf s =
+-- by its settings
+abbrev pub infoOfBy : Settings → List ℕ → ContactInfo
+infoOfBy settings s =
     cond (eqb (getD s 32 0) 1)
-    (Dmr (record { id = num s 33 4; settings = settingsOf (getD s 37 0) }))
+    (Dmr (record { id = num s 33 4; settings = settings }))
     (M17 (addressFor (big (part s 33 6))))
 
+unfoldable pub infoOf : List ℕ → ContactInfo
+infoOf s = infoOfBy (settingsOf (getD s 37 0)) s
+
+-- by its info
+abbrev pub contactOfBy : ContactInfo → List ℕ → Contact
+contactOfBy info s = record { name = part s 0 32; info = info }
+
 unfoldable pub contactOf : List ℕ → Contact
-contactOf s = record { name = part s 0 32; info = infoOf s }
+contactOf s = contactOfBy (infoOf s) s
 
 -- what stands beside a refusal: no name, DMR id 0, type 0 (group), rx tone off
 unfoldable pub blankContact : Contact

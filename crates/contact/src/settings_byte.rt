@@ -1,4 +1,4 @@
-// Settings: contact type in bits 7 and 6 (0 to 2), rx tone in bit 5, the rest zero.
+// Settings: contact type in bits 0 and 1 (0 to 2), rx tone in bit 2, the rest zero (document 02, [5]).
 use crate::Settings;
 use bits::NumberFlag;
 ghost use mathlib.Core.Path.{_≡_};

@@ -17,7 +17,7 @@ ghost use mathlib.Core.Path.{_≡_};
 ghost use mathlib.Core.Bool.{cond};
 ghost use Prim.Native.Nat.{_<_, _^_};
 ghost use lib.Dec.{eqb};
-ghost use Rattle.contact.specs.Contact.{modeOk, dmrRule, m17Rule, contactRule};
+ghost use Rattle.contact.specs.Contact.{modeOk, dmrRuleBy, m17Rule, contactRuleBy, contactRule};
 
 fn mode_ok(m: u8) -> bool
     ensures { λ r. ⌜ r ≡ modeOk m ⌝ }
@@ -25,20 +25,13 @@ fn mode_ok(m: u8) -> bool
     m == contact::DMR || m == contact::M17
 }
 
-fn validate_dmr(s: &[u8], base: usize) -> Validity
+fn validate_dmr(s: &[u8], base: usize, settings: bool) -> Validity
     requires { ⌜ base < 2 ^ 62 ⌝ }
-    ensures { λ r. ⌜ r ≡ dmrRule (now (s .entry)) base ⌝ }
+    ensures { λ r. ⌜ r ≡ dmrRuleBy settings (now (s .entry)) base ⌝ }
 {
     let left = s.len();
     let id = field(left, base, 33, 4, VALUE, true);
-    let set = field(
-        left,
-        base,
-        37,
-        1,
-        VALUE,
-        bits::number_flag_ok(byte_at(s, 37)),
-    );
+    let set = field(left, base, 37, 1, VALUE, settings);
     let pad = field(left, base, 38, 1, VALUE, byte_at(s, 38) == 0);
     first(id, first(set, pad))
 }
@@ -54,24 +47,32 @@ fn validate_m17(s: &[u8], base: usize) -> Validity
     field(left, base, 33, 6, ADDRESS, m17::address_ok(be48(s, 33)))
 }
 
-fn validate_info(s: &[u8], base: usize, mode: u8) -> Validity
+fn validate_info(s: &[u8], base: usize, mode: u8, settings: bool) -> Validity
     requires { ⌜ base < 2 ^ 62 ⌝ }
-    ensures { λ r. ⌜ r ≡ cond (eqb mode 1) (dmrRule (now (s .entry)) base) (m17Rule (now (s .entry)) base) ⌝ }
+    ensures { λ r. ⌜ r ≡ cond (eqb mode 1) (dmrRuleBy settings (now (s .entry)) base) (m17Rule (now (s .entry)) base) ⌝ }
 {
     if mode == contact::DMR {
-        validate_dmr(s, base)
+        validate_dmr(s, base, settings)
     } else {
         validate_m17(s, base)
     }
+}
+
+// Whether the settings byte is within its rule comes in as `settings`.
+pub fn validate_by(s: &[u8], base: usize, settings: bool) -> Validity
+    requires { ⌜ base < 2 ^ 62 ⌝ }
+    ensures { λ r. ⌜ r ≡ contactRuleBy (dmrRuleBy settings (now (s .entry)) base) (now (s .entry)) base ⌝ }
+{
+    let mode = byte_at(s, CONTACT_MODE_AT);
+    let name = text_field(s, base, 0);
+    let kind = field(s.len(), base, CONTACT_MODE_AT, 1, MODE, mode_ok(mode));
+    let info = validate_info(s, base, mode, settings);
+    first(name, first(kind, info))
 }
 
 pub fn validate(s: &[u8], base: usize) -> Validity
     requires { ⌜ base < 2 ^ 62 ⌝ }
     ensures { λ r. ⌜ r ≡ contactRule (now (s .entry)) base ⌝ }
 {
-    let mode = byte_at(s, CONTACT_MODE_AT);
-    let name = text_field(s, base, 0);
-    let kind = field(s.len(), base, CONTACT_MODE_AT, 1, MODE, mode_ok(mode));
-    let info = validate_info(s, base, mode);
-    first(name, first(kind, info))
+    validate_by(s, base, bits::number_flag_ok(byte_at(s, 37)))
 }

@@ -6,13 +6,13 @@ ghost use mathlib.Core.Path.{_≡_};
 ghost use Prim.Native.Nat.{ℕ};
 ghost use lib.ListN.{length};
 ghost use Rattle.fields.specs.Rule.{isValid};
-ghost use Rattle.contact.specs.Contact.{dmrRule, m17Rule, contactRule};
+ghost use Rattle.contact.specs.Contact.{dmrRuleBy, m17Rule, contactRuleBy, contactRule};
 
-fn dmr_valid(s: &[u8]) -> bool
+fn dmr_valid(s: &[u8], settings: bool) -> bool
     requires { ⌜ length (now s) ≡ 39 ⌝ }
-    ensures { λ r. ⌜ ((base : ℕ) → r ≡ isValid (dmrRule (now (s .entry)) base)) ⌝ }
+    ensures { λ r. ⌜ ((base : ℕ) → r ≡ isValid (dmrRuleBy settings (now (s .entry)) base)) ⌝ }
 {
-    bits::number_flag_ok(s[37]) & (s[38] == 0)
+    settings & (s[38] == 0)
 }
 
 fn m17_valid(s: &[u8]) -> bool
@@ -22,13 +22,21 @@ fn m17_valid(s: &[u8]) -> bool
     m17::address_ok(be48(s, 33))
 }
 
-// Of a contact's 39 bytes. Both modes are validated, and the contact's own is picked.
+// Of a contact's 39 bytes. Both modes are validated, and the contact's own is picked. Whether the settings byte is within its rule comes in
+// as `settings`.
+pub fn is_valid_by(s: &[u8], settings: bool) -> bool
+    requires { ⌜ length (now s) ≡ 39 ⌝ }
+    ensures { λ r. ⌜ ((base : ℕ) → r ≡ isValid (contactRuleBy (dmrRuleBy settings (now (s .entry)) base) (now (s .entry)) base)) ⌝ }
+{
+    let mode = s[32];
+    let info = pick(mode == contact::DMR, dmr_valid(s, settings), m17_valid(s));
+    let kind = (mode == contact::DMR) | (mode == contact::M17);
+    text_ok(&s[0..32]) & (kind & info)
+}
+
 pub fn is_valid(s: &[u8]) -> bool
     requires { ⌜ length (now s) ≡ 39 ⌝ }
     ensures { λ r. ⌜ ((base : ℕ) → r ≡ isValid (contactRule (now (s .entry)) base)) ⌝ }
 {
-    let mode = s[32];
-    let info = pick(mode == contact::DMR, dmr_valid(s), m17_valid(s));
-    let kind = (mode == contact::DMR) | (mode == contact::M17);
-    text_ok(&s[0..32]) & (kind & info)
+    is_valid_by(s, bits::number_flag_ok(s[37]))
 }

@@ -1,5 +1,5 @@
 // The channels of a file, validated: each, and the first bad one.
-mod whole; // whole.rt: whether all channels are valid
+pub mod whole; // whole.rt: whether all channels are valid
 
 use crate::whole::channel_valid;
 use crate::whole::channels_valid;

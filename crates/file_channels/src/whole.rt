@@ -27,7 +27,7 @@ fn row_of(index: usize, below: bool) -> usize
 
 // Whether the number in the two bytes of a contact index is 65,535 or names a contact of the channel's own mode. Of an FM channel and of a mode
 // that is not there the answer is not read.
-fn index_valid(f: &[u8], s: &[u8], contacts: usize) -> bool
+pub fn index_valid(f: &[u8], s: &[u8], contacts: usize) -> bool
     requires { ⌜ (length (now s) ≡ 90) × (contacts ≡ contactCount (now f)) ⌝ }
     ensures { λ r. ⌜ r ≡ namesContact (now (f .entry)) (getD (now (s .entry)) 0 0)
         (contactIndexOf (num (now (s .entry)) (contactIndexPlace (getD (now (s .entry)) 0 0)) 2)) ⌝ }

@@ -21,8 +21,12 @@ use Rattle.layout.specs.Banks.{offsetsRule, banksRule}
 abbrev pub contactAt : List ℕ → ℕ → Validity
 contactAt f p = contactRule (part f p 39) p
 
+-- by what refuses the contact at a place
+abbrev pub contactsRuleBy : (ℕ → Validity) → List ℕ → Validity
+contactsRuleBy rule f = each rule (contactCount f) 39 (contactPlace 0)
+
 unfoldable pub contactsRule : List ℕ → Validity
-contactsRule f = each (contactAt f) (contactCount f) 39 (contactPlace 0)
+contactsRule f = contactsRuleBy (contactAt f) f
 
 -- ---- channels: a contact index is 65,535, or below the contact count and names a contact of the channel's own mode
 
@@ -36,16 +40,24 @@ indexOk f s = namesContact f (getD s 0 0) (namedContact s)
 abbrev pub channelAt : List ℕ → ℕ → Validity
 channelAt f p = channelRule (part f p 90) p (indexOk f (part f p 90))
 
+-- by what refuses the channel at a place
+abbrev pub channelsRuleBy : (ℕ → Validity) → List ℕ → Validity
+channelsRuleBy rule f = each rule (channelCount f) 90 (channelPlace f 0)
+
 unfoldable pub channelsRule : List ℕ → Validity
-channelsRule f = each (channelAt f) (channelCount f) 90 (channelPlace f 0)
+channelsRule f = channelsRuleBy (channelAt f) f
 
 -- ---- the whole file
 
-unfoldable pub fileRule : List ℕ → Validity
-fileRule f =
+-- by what refuses its contacts and its channels
+abbrev pub fileRuleBy : Validity → Validity → List ℕ → Validity
+fileRuleBy contacts channels f =
     unless (leb (length f) 1_048_576) 1 0
     then headerRule f
-    then contactsRule f
-    then channelsRule f
+    then contacts
+    then channels
     then offsetsRule f
     then banksRule f
+
+unfoldable pub fileRule : List ℕ → Validity
+fileRule f = fileRuleBy (contactsRule f) (channelsRule f) f

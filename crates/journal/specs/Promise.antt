@@ -15,10 +15,14 @@ EveryEdit S P [] = Unit
 EveryEdit S P (edit e ∷ l) = P e × EveryEdit S P l
 EveryEdit S P (undo ∷ l) = EveryEdit S P l
 
--- Over every accepted opening file f, every content of the spare bytes of the room and of the history's buffer, so every size of both, and
--- every list of calls, refused ones included: each answer is the book's, and after the list the room holds the book's file.
-abbrev pub EveryList : (S : EditSystem) → (S .Edit → Type 0) → Type 0
-EveryList S P =
-    (f spare history : List ℕ) → S .accepts f ≡ Valid → AllBytes f → (calls : List (Call S)) → EveryEdit S P calls
+-- The opening file f, spare bytes of the room behind it, and the history's buffer, its length 0: over every list of calls, refused ones included, each
+-- answer is the book's, and after the list the room holds the book's file.
+abbrev pub EveryListFrom : (S : EditSystem) → (S .Edit → Type 0) → List ℕ → List ℕ → List ℕ → Type 0
+EveryListFrom S P f spare history =
+    (calls : List (Call S)) → EveryEdit S P calls
     → (answers S calls (opened f spare history) ≡ bookAnswers S calls (book S f (length (f ++ spare)) (length history)))
     × (fileOf (final S calls (opened f spare history)) ≡ bookFile S (bookFinal S calls (book S f (length (f ++ spare)) (length history))))
+
+-- Over every accepted opening file and every content of the spare bytes of the room and of the history's buffer, so every size of both.
+abbrev pub EveryList : (S : EditSystem) → (S .Edit → Type 0) → Type 0
+EveryList S P = (f spare history : List ℕ) → S .accepts f ≡ Valid → AllBytes f → EveryListFrom S P f spare history

@@ -1,7 +1,7 @@
 //! Files: valid, damaged, cut, with more after them, and noise.
 
 use obcf_second::doubtful;
-use obcf_second::sample::{self, Limits, Rng, Shape};
+use obcf_second::sample::{self, Limits, Rng, Shape, Span};
 use obcf_second::Codeplug;
 
 use crate::reading::{How, Read, Reading};
@@ -11,13 +11,13 @@ use crate::work::Work;
 /// Up to so many records of a sort are all read by the readers that validate.
 const READ_WHOLE: usize = 60;
 
-const FEW: Shape = Shape {
+pub const FEW: Shape = Shape {
     contacts: 3,
     channels: 3,
     banks: 3,
     entries: 4,
 };
-const SMALL: Shape = Shape {
+pub const SMALL: Shape = Shape {
     contacts: 12,
     channels: 12,
     banks: 6,
@@ -34,16 +34,21 @@ pub fn any(work: &mut Work, rng: &mut Rng) -> Compared {
     read(work, rng, &file)
 }
 
-/// Validates a file and reads its records: by the readers that do not validate
-/// again every one of a valid file, by the others every one or some of many.
+/// Lends a file, validates it and reads its records.
 pub fn read(work: &mut Work, rng: &mut Rng, file: &[u8]) -> Compared {
     let mut reading = Reading::of(work.file.lend(file), &mut work.texts, &mut work.tally);
+    read_all(&mut reading, rng)
+}
+
+/// Validates a file and reads its records: by the readers that do not validate
+/// again every one of a valid file, by the others every one or some of many.
+pub fn read_all(reading: &mut Reading, rng: &mut Rng) -> Compared {
     reading.validated()?;
     reading.read(rng, Read::Header)?;
     let sizes = sizes(reading.codeplug());
-    read_records(&mut reading, rng, &sizes, How::Validating)?;
+    read_records(reading, rng, &sizes, How::Validating)?;
     if reading.codeplug().is_some() {
-        return read_records(&mut reading, rng, &sizes, How::Prevalidated);
+        return read_records(reading, rng, &sizes, How::Prevalidated);
     }
     for n in [0, 1, rng.below(16), usize::MAX] {
         reading.read_invalid(n)?;
@@ -105,13 +110,19 @@ fn places(rng: &mut Rng, count: usize, how: How) -> Vec<usize> {
 /// A valid file with each field spoiled, and each byte changed, one at a time.
 pub fn damaged(work: &mut Work, rng: &mut Rng) -> Compared {
     let valid = sample::file(rng, FEW);
-    let limits = Limits::of_file(&valid);
-    let mut invalid = valid.clone();
-    for span in sample::file_spans(&valid) {
+    let spans = sample::file_spans(&valid);
+    each_damage(rng, &valid, &spans, |_, file| validate(work, file))
+}
+
+/// Each field of a file spoiled twice and each byte changed once, one at a time.
+pub fn each_damage(rng: &mut Rng, valid: &[u8], spans: &[Span], mut compare: impl FnMut(&mut Rng, &[u8]) -> Compared) -> Compared {
+    let limits = Limits::of_file(valid);
+    let mut invalid = valid.to_vec();
+    for &span in spans {
         for _ in 0..2 {
             sample::spoil(rng, &mut invalid, span, limits);
-            validate(work, &invalid)?;
-            invalid.copy_from_slice(&valid);
+            compare(rng, &invalid)?;
+            invalid.copy_from_slice(valid);
         }
     }
     for at in 0..valid.len() {
@@ -127,7 +138,7 @@ pub fn damaged(work: &mut Work, rng: &mut Rng) -> Compared {
             valid[at].wrapping_sub(1),
             valid[at] ^ 0x80,
         ]);
-        validate(work, &invalid)?;
+        compare(rng, &invalid)?;
         invalid[at] = valid[at];
     }
     Ok(())
@@ -135,19 +146,24 @@ pub fn damaged(work: &mut Work, rng: &mut Rng) -> Compared {
 
 /// A file, valid or spoiled, cut at every length and with more after it.
 pub fn cut(work: &mut Work, rng: &mut Rng) -> Compared {
-    let mut file = sample::file(rng, FEW);
+    let file = sample::file(rng, FEW);
+    let spans = sample::file_spans(&file);
+    each_cut(rng, file, &spans, |_, file| validate(work, file))
+}
+
+/// A file at every length below its own and at some above, one in three spoiled.
+pub fn each_cut(rng: &mut Rng, mut file: Vec<u8>, spans: &[Span], mut compare: impl FnMut(&mut Rng, &[u8]) -> Compared) -> Compared {
     if rng.one_in(3) {
-        let spans = sample::file_spans(&file);
-        doubtful::spoil_some(rng, &mut file, &spans, 1);
+        doubtful::spoil_some(rng, &mut file, spans, 1);
     }
     for length in 0..file.len() {
-        validate(work, &file[..length])?;
+        compare(rng, &file[..length])?;
     }
     for _ in 0..8 {
-        validate(work, &file)?;
+        compare(rng, &file)?;
         doubtful::extend(rng, &mut file, 40);
     }
-    validate(work, &file)
+    compare(rng, &file)
 }
 
 fn validate(work: &mut Work, file: &[u8]) -> Compared {

@@ -41,6 +41,14 @@ pub fn validate(file: &[u8]) -> ValidateAnswer {
     unsafe { c::codeplug_validate(at(file), file.len()) }
 }
 
+pub fn validate_legacy(file: &[u8]) -> ValidateAnswer {
+    unsafe { c::codeplug_validate_legacy(at(file), file.len()) }
+}
+
+pub fn migrate(file: &mut [u8]) -> ValidateAnswer {
+    unsafe { c::codeplug_migrate(at_mut(file), file.len()) }
+}
+
 pub fn header(file: &[u8], texts: &mut [u8]) -> HeaderAnswer {
     unsafe { c::codeplug_header(at(file), file.len(), at_mut(texts), texts.len()) }
 }

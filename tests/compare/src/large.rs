@@ -1,25 +1,27 @@
-//! Files up to 1,048,576 bytes and just past that, validated, read and edited.
+//! Files up to 1,048,576 bytes and just past that, validated, read, edited and
+//! migrated.
 
 use obcf_second::book::Call;
 use obcf_second::edit::Edit;
 use obcf_second::lists::{self, Lent};
 use obcf_second::record::NO_CONTACT;
-use obcf_second::sample::{self, Rng};
+use obcf_second::sample::{self, Rng, Span};
 use obcf_second::{doubtful, Codeplug, LONGEST};
 
 use crate::calls::follow;
 use crate::files;
+use crate::legacy;
 use crate::report::Compared;
 use crate::work::Work;
 
 const MOST_ENTRIES: usize = 65_535;
 
-/// A file or, as often, calls.
-pub fn either(work: &mut Work, rng: &mut Rng) -> Compared {
-    if rng.flag() {
-        file(work, rng)
-    } else {
-        calls(work, rng)
+/// A file or, as often, calls; now and then a legacy file.
+pub fn any(work: &mut Work, rng: &mut Rng) -> Compared {
+    match rng.below(11) {
+        0 => legacy_file(work, rng),
+        1..=5 => file(work, rng),
+        _ => calls(work, rng),
     }
 }
 
@@ -27,15 +29,27 @@ pub fn either(work: &mut Work, rng: &mut Rng) -> Compared {
 fn file(work: &mut Work, rng: &mut Rng) -> Compared {
     let mut file = valid(rng);
     files::read(work, rng, &file)?;
+    let spans = sample::file_spans(&file);
+    damage(rng, &mut file, &spans);
+    files::read(work, rng, &file)
+}
+
+/// A large legacy file: migrated, and again after it is damaged.
+fn legacy_file(work: &mut Work, rng: &mut Rng) -> Compared {
+    let mut file = valid(rng);
+    sample::to_legacy(&mut file);
+    legacy::migrate(work, rng, &file)?;
+    let spans = sample::legacy_file_spans(&file);
+    damage(rng, &mut file, &spans);
+    legacy::migrate(work, rng, &file)
+}
+
+fn damage(rng: &mut Rng, file: &mut Vec<u8>, spans: &[Span]) {
     match rng.below(4) {
         0 => file.truncate(file.len() - 1 - rng.below(200)),
         1 => file.resize(LONGEST + rng.below(3), 0),
-        _ => {
-            let spans = sample::file_spans(&file);
-            doubtful::spoil_some(rng, &mut file, &spans, 1);
-        }
+        _ => doubtful::spoil_some(rng, file, spans, 1),
     }
-    files::read(work, rng, &file)
 }
 
 /// A few calls on a large file, in a room that is exact or longer than any

@@ -14,6 +14,7 @@ mod files;
 mod histories;
 mod interface;
 mod large;
+mod legacy;
 mod parts;
 mod reading;
 mod records;

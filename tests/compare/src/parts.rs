@@ -4,7 +4,7 @@ use obcf_second::sample::Rng;
 
 use crate::report::Compared;
 use crate::work::Work;
-use crate::{addresses, calls, files, histories, large, records};
+use crate::{addresses, calls, files, histories, large, legacy, records};
 
 /// A part makes its cases from a seed and compares them.
 pub struct Part {
@@ -19,7 +19,7 @@ pub struct Part {
     pub meets: &'static [u8],
 }
 
-pub const PARTS: [Part; 13] = [
+pub const PARTS: [Part; 15] = [
     Part {
         name: "files",
         run: files::any,
@@ -109,6 +109,22 @@ pub const PARTS: [Part; 13] = [
         meets: &[31],
     },
     Part {
+        name: "migrate",
+        run: legacy::any,
+        seeds: 40_000,
+        round: 1_000,
+        shares: 1,
+        meets: &[2, 3, 4, 5, 6, 7, 8, 9, 10, 11, 12],
+    },
+    Part {
+        name: "legacy-cut",
+        run: legacy::cut,
+        seeds: 6_000,
+        round: 150,
+        shares: 1,
+        meets: &[2, 3, 4, 5, 6, 7, 8, 9, 10, 11, 12],
+    },
+    Part {
         name: "calls",
         run: calls::list,
         seeds: 180_000,
@@ -118,8 +134,8 @@ pub const PARTS: [Part; 13] = [
     },
     Part {
         name: "large",
-        run: large::either,
-        seeds: 200,
+        run: large::any,
+        seeds: 220,
         round: 6,
         shares: 1,
         meets: &[1, 34, 36, 37],

@@ -42,7 +42,11 @@ pub enum Read {
 
 impl<'a> Reading<'a> {
     pub fn of(file: &'a [u8], texts: &'a mut Fence, tally: &'a mut Tally) -> Reading<'a> {
-        let codeplug = Codeplug::read(file);
+        Reading::holding(file, Codeplug::read(file), texts, tally)
+    }
+
+    /// A file that has to read as this.
+    pub fn holding(file: &'a [u8], codeplug: Result<Codeplug, Refusal>, texts: &'a mut Fence, tally: &'a mut Tally) -> Reading<'a> {
         Reading {
             file,
             codeplug,

@@ -5,7 +5,7 @@ use obcf_second::book::{Book, Call};
 use obcf_second::lists::{list, Lent};
 use obcf_second::sample::Rng;
 
-use crate::corpus::{Case, LONGEST_CASE};
+use crate::corpus::{checksum, Case, LONGEST_CASE};
 
 /// A list of calls and its lines.
 pub fn case(rng: &mut Rng) -> (Vec<u8>, String) {
@@ -73,10 +73,4 @@ fn answers(mut lent: Lent, calls: &[Call]) -> Vec<String> {
         lines.push(format!("{words} room {room} history {history}"));
     }
     lines
-}
-
-fn checksum(bytes: &[u8]) -> u64 {
-    bytes.iter().fold(0, |sum, &byte| {
-        (sum * 257 + u64::from(byte) + 1) % 2_147_483_647
-    })
 }

@@ -2,7 +2,7 @@
 //! (paper: The file).
 
 use crate::cursor::Cursor;
-use crate::record::{Channel, Contact, Text, TEXT_SIZE};
+use crate::record::{split_settings, Channel, Contact, Split, Text, TEXT_SIZE};
 use crate::refusal::{ensure, Reason, Refusal};
 use crate::LONGEST;
 
@@ -72,17 +72,22 @@ pub fn write_empty(out: &mut [u8]) -> Result<(), Refusal> {
 impl Codeplug {
     /// Reads a file: 1 first, then fields in file order.
     pub fn read(bytes: &[u8]) -> Result<Codeplug, Refusal> {
+        Codeplug::read_by(bytes, split_settings)
+    }
+
+    /// `split` is how the reading splits traits and contact settings.
+    pub(crate) fn read_by(bytes: &[u8], split: Split) -> Result<Codeplug, Refusal> {
         ensure(bytes.len() <= LONGEST, Reason::TooLong, 0)?;
         let cursor = &mut Cursor::new(bytes);
         let header = Header::read_at(cursor)?;
         let counts = header.counts;
 
         let contacts = (0..counts.contacts)
-            .map(|_| Contact::read_at(cursor))
+            .map(|_| Contact::read_at(cursor, split))
             .collect::<Result<Vec<_>, _>>()?;
         let channels = (0..counts.channels)
             .map(|_| {
-                Channel::read_at(cursor, |mode, index| {
+                Channel::read_at(cursor, split, |mode, index| {
                     contacts
                         .get(usize::from(index))
                         .is_some_and(|contact| contact.info.mode() == mode)

@@ -10,7 +10,7 @@ use obcf_second::record::{
 };
 use obcf_second::sample::{self, Rng};
 use obcf_second::tone::Tone;
-use obcf_second::{validate, Counts, Refusal};
+use obcf_second::{migrate, validate, Counts, Refusal};
 
 use crate::calls;
 
@@ -28,6 +28,7 @@ pub fn generator(kind: &str) -> Option<Generator> {
         "channels-read" => Some(channel_reading_case),
         "written" => Some(writing_case),
         "calls" => Some(calls::case),
+        "migrated" => Some(migrated_case),
         _ => None,
     }
 }
@@ -103,6 +104,16 @@ pub fn validate_line(answer: Result<Counts, Refusal>) -> String {
     }
 }
 
+// Legacy files.
+
+/// A file to migrate; the line ends with a sum over the file as it is left.
+fn migrated_case(rng: &mut Rng) -> (Vec<u8>, String) {
+    let file = doubtful::short_legacy_file(rng);
+    let mut left = file.clone();
+    let answer = validate_line(migrate(&mut left));
+    (file, format!("{answer} file {}", checksum(&left)))
+}
+
 // Contacts.
 
 fn contact_case(rng: &mut Rng) -> (Vec<u8>, String) {
@@ -122,9 +133,15 @@ fn contact_case(rng: &mut Rng) -> (Vec<u8>, String) {
     let mut buffer = doubtful::out_buffer(rng, CONTACT_SIZE);
     let case = Case::new(WRITE).bytes(&buffer).bytes(&contact.name);
     let case = match contact.info {
-        ContactInfo::Dmr { id, contact_type, rx_tone } => {
-            case.u8(1).raw(&id.to_le_bytes()).u8(contact_type).flag(rx_tone)
-        }
+        ContactInfo::Dmr {
+            id,
+            contact_type,
+            rx_tone,
+        } => case
+            .u8(1)
+            .raw(&id.to_le_bytes())
+            .u8(contact_type)
+            .flag(rx_tone),
         ContactInfo::M17(Address::Callsign(number)) => case.u8(2).raw(&number.to_le_bytes()),
         ContactInfo::M17(Address::Broadcast) => case.u8(3),
     };
@@ -135,7 +152,11 @@ fn contact_case(rng: &mut Rng) -> (Vec<u8>, String) {
 fn contact_line(contact: &Contact) -> String {
     let name = hex(&contact.name);
     match contact.info {
-        ContactInfo::Dmr { id, contact_type, rx_tone } => {
+        ContactInfo::Dmr {
+            id,
+            contact_type,
+            rx_tone,
+        } => {
             format!(
                 "dmr name={name} id={id} type={contact_type} rxtone={}",
                 u8::from(rx_tone)
@@ -365,6 +386,13 @@ fn write_line(answer: Result<(), Refusal>, buffer: &[u8]) -> String {
     }
 }
 
+/// A sum over a whole buffer.
+pub fn checksum(bytes: &[u8]) -> u64 {
+    bytes.iter().fold(0, |sum, &byte| {
+        (sum * 257 + u64::from(byte) + 1) % 2_147_483_647
+    })
+}
+
 /// Two lower-case digits for each byte, or a hyphen for no bytes at all.
 fn hex(bytes: &[u8]) -> String {
     if bytes.is_empty() {
@@ -379,6 +407,7 @@ fn hex(bytes: &[u8]) -> String {
 #[cfg(test)]
 mod tests {
     use super::*;
+    use obcf_second::validate_legacy;
     use std::collections::BTreeMap;
 
     /// The first words of the lines of a corpus, refusals with their number.
@@ -435,6 +464,130 @@ mod tests {
         // 1 and 34 would need larger files.
         let refusals: Vec<u8> = (2..=12).chain(30..=33).chain(35..=39).collect();
         covers("calls", &["done"], &refusals);
+        covers("migrated", &["ok"], &[2, 3, 4, 5, 6, 7, 8, 9, 10, 11, 12]);
+    }
+
+    /// The cases that crates/corpus_migrated is run on.
+    fn migrated_cases() -> Vec<(Vec<u8>, String)> {
+        assert!(include_str!("../corpora").contains("\nwrite migrated 385 150 corpus_migrated\n"));
+        let mut rng = Rng::new(385);
+        (0..150).map(|_| migrated_case(&mut rng)).collect()
+    }
+
+    #[test]
+    fn the_migrated_corpus_is_short_and_meets_every_refusal() {
+        let cases = migrated_cases();
+        let size: usize = cases.iter().map(|(file, _)| 4 + file.len()).sum();
+        assert!(size < 60_000, "{size}");
+        for number in 2..=12 {
+            let refused = format!("refused {number} at ");
+            let met = cases.iter().filter(|(_, line)| line.starts_with(&refused));
+            assert!(met.count() >= 3, "{number}");
+        }
+    }
+
+    /// A number of the header.
+    fn number(file: &[u8], at: usize) -> usize {
+        usize::from(u16::from_le_bytes([file[at], file[at + 1]]))
+    }
+
+    /// The traits or contact settings for which a file is refused. All before
+    /// the place is good, so the records are where the counts say.
+    fn bad_settings(file: &[u8]) -> Option<u8> {
+        let refusal = validate_legacy(file).err()?;
+        let place = refusal.place;
+        if refusal.number != 7 {
+            return None;
+        }
+        let channels = 88 + CONTACT_SIZE * number(file, 82);
+        let bad = if place < channels {
+            (place - 88) % CONTACT_SIZE == 37
+        } else {
+            (place - channels) % CHANNEL_SIZE == 1
+        };
+        bad.then_some(file[place])
+    }
+
+    /// Cases refused for one reserved bit beside valid ones, for the number 3,
+    /// and for every valid byte of today.
+    #[test]
+    fn the_migrated_corpus_has_bad_traits_and_settings() {
+        let cases = migrated_cases();
+        let met: Vec<u8> = cases.iter().flat_map(|c| bad_settings(&c.0)).collect();
+        for bit in 0..5 {
+            let alone = |b: &u8| matches!(b >> 5, 1..=5) && b & 0x1F == 1 << bit;
+            assert!(met.iter().any(alone), "bit {bit}: {met:?}");
+        }
+        for byte in [0xC0, 0xE0, 1, 2, 4, 5, 6] {
+            assert!(met.contains(&byte), "{byte}: {met:?}");
+        }
+    }
+
+    /// Accepted cases that change contacts, channels, or the last of several
+    /// channels, and such as have channels but change nothing.
+    #[test]
+    fn the_migrated_corpus_changes_contacts_and_channels() {
+        let (mut in_contacts, mut in_channels, mut in_last, mut nowhere) = (0, 0, 0, 0);
+        for (file, line) in migrated_cases() {
+            let mut left = file.clone();
+            let Ok(counts) = migrate(&mut left) else {
+                assert!(left == file && line.starts_with("refused "));
+                continue;
+            };
+            assert_eq!(
+                line,
+                format!("{} file {}", validate_line(Ok(counts)), checksum(&left))
+            );
+            let channels = 88 + CONTACT_SIZE * usize::from(counts.contacts);
+            let changed: Vec<usize> = (0..file.len()).filter(|&n| left[n] != file[n]).collect();
+            in_contacts += usize::from(changed.iter().any(|&n| n < channels));
+            in_channels += usize::from(changed.iter().any(|&n| n >= channels));
+            let last = usize::from(counts.channels.saturating_sub(1));
+            let last = channels + CHANNEL_SIZE * last + 1;
+            in_last += usize::from(counts.channels > 1 && changed.contains(&last));
+            nowhere += usize::from(changed.is_empty() && counts.channels > 0);
+        }
+        let met = [in_contacts, in_channels, in_last, nowhere];
+        assert!(met.iter().all(|&cases| cases >= 3), "{met:?}");
+    }
+
+    /// Accepted cases in which taking M17 contacts for DMR ones changes byte 37,
+    /// be it by its bits or only where it would be good legacy settings.
+    #[test]
+    fn the_migrated_corpus_has_telling_addresses() {
+        let (mut by_bits, mut by_table) = (0, 0);
+        for (file, _) in migrated_cases() {
+            let Ok(counts) = validate_legacy(&file) else {
+                continue;
+            };
+            let contacts = file[88..].chunks(CONTACT_SIZE).take(counts.contacts.into());
+            let bytes: Vec<u8> = contacts.filter(|c| c[32] == 2).map(|c| c[37]).collect();
+            let is_settings = |b: u8| b & 0x1F == 0 && matches!(b >> 5, 1..=5);
+            by_bits += usize::from(bytes.iter().any(|&b| (b >> 6 | b >> 3 & 4) != b));
+            by_table += usize::from(bytes.iter().any(|&b| is_settings(b)));
+        }
+        assert!(by_bits >= 10 && by_table >= 10, "{by_bits} {by_table}");
+    }
+
+    /// Whether a file is refused after traits that are not 0.
+    fn refused_after_traits(file: &[u8]) -> bool {
+        let place = validate_legacy(file).map_or_else(|refusal| refusal.place, |_| 0);
+        let before = &file[..place];
+        if before.len() < 88 {
+            return false;
+        }
+        let first = 88 + CONTACT_SIZE * number(file, 82) + 1;
+        let mut traits = (0..number(file, 84)).map(|n| before.get(first + CHANNEL_SIZE * n));
+        traits.any(|byte| byte.is_some_and(|&byte| byte != 0))
+    }
+
+    /// Refused cases that find a program which migrates what it has read
+    /// before it refuses.
+    #[test]
+    fn the_migrated_corpus_refuses_late() {
+        let cases = migrated_cases();
+        let late = cases.iter().filter(|case| refused_after_traits(&case.0));
+        assert!(late.count() >= 10);
     }
 
     #[test]

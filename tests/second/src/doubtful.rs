@@ -5,7 +5,7 @@ use crate::address::Address;
 use crate::record::{
     Channel, ChannelInfo, Contact, ContactInfo, CHANNEL_SIZE, CONTACT_SIZE, NO_CONTACT,
 };
-use crate::sample::{self, Limits, Rng, Shape, Span};
+use crate::sample::{self, Kind, Limits, Rng, Shape, Span};
 
 /// A record outside a file has no counts to limit its indexes; any will do.
 const NO_LIMITS: Limits = Limits {
@@ -23,6 +23,12 @@ const SMALL: Shape = Shape {
     channels: 12,
     banks: 6,
     entries: 8,
+};
+const FEW: Shape = Shape {
+    contacts: 4,
+    channels: 3,
+    banks: 2,
+    entries: 3,
 };
 const LARGE: Shape = Shape {
     contacts: 300,
@@ -45,20 +51,81 @@ pub fn file(rng: &mut Rng) -> Vec<u8> {
         return file;
     }
     let spans = sample::file_spans(&file);
+    damage(rng, &mut file, &spans);
+    file
+}
+
+/// Leaves a valid file as it is, or spoils, cuts or extends it.
+fn damage(rng: &mut Rng, file: &mut Vec<u8>, spans: &[Span]) {
     match rng.below(20) {
         0..=3 => {}
-        4..=6 => cut(rng, &mut file, &spans),
-        7 => extend(rng, &mut file, 40),
-        8..=14 => spoil_some(rng, &mut file, &spans, 1),
-        15 | 16 => spoil_some(rng, &mut file, &spans, 2),
+        4..=6 => cut(rng, file, spans),
+        7 => extend(rng, file, 40),
+        8..=14 => spoil_some(rng, file, spans, 1),
+        15 | 16 => spoil_some(rng, file, spans, 2),
         17 => {
-            spoil_some(rng, &mut file, &spans, 1);
-            extend(rng, &mut file, 40);
+            spoil_some(rng, file, spans, 1);
+            extend(rng, file, 40);
         }
         _ => {
-            spoil_some(rng, &mut file, &spans, 1);
-            cut(rng, &mut file, &spans);
+            spoil_some(rng, file, spans, 1);
+            cut(rng, file, spans);
         }
+    }
+}
+
+/// A legacy file: valid by the legacy reading, spoiled, cut, with bytes after its
+/// end, in today's order, or noise.
+pub fn legacy_file(rng: &mut Rng) -> Vec<u8> {
+    match rng.below(200) {
+        0 => {
+            let mut file = full_file(rng);
+            sample::to_legacy(&mut file);
+            damaged_legacy_file(rng, file)
+        }
+        1 => old_or_new_file(rng, LARGE),
+        2 | 3 => Vec::new(),
+        4..=9 => noise(rng),
+        10..=15 => valid_header_and_noise(rng),
+        _ => old_or_new_file(rng, SMALL),
+    }
+}
+
+/// The same, but with few records.
+pub fn short_legacy_file(rng: &mut Rng) -> Vec<u8> {
+    match rng.below(60) {
+        0 => Vec::new(),
+        1 => noise(rng),
+        2 | 3 => valid_header_and_noise(rng),
+        _ => old_or_new_file(rng, FEW),
+    }
+}
+
+/// A legacy file, more often than not damaged, or now and then a valid one in
+/// today's order.
+fn old_or_new_file(rng: &mut Rng, most: Shape) -> Vec<u8> {
+    if rng.one_in(20) {
+        return sample::file(rng, most);
+    }
+    let file = sample::legacy_file(rng, most);
+    damaged_legacy_file(rng, file)
+}
+
+/// Leaves a legacy file as it is or damages it, more often than not at traits or
+/// contact settings, or at a field that may be read after some of them.
+fn damaged_legacy_file(rng: &mut Rng, mut file: Vec<u8>) -> Vec<u8> {
+    const LATER: [Kind; 4] = [Kind::Address, Kind::ContactIndex, Kind::Offset, Kind::Entry];
+    let spans = sample::legacy_file_spans(&file);
+    let of_kinds = |kinds: &[Kind]| -> Vec<Span> {
+        let fitting = spans.iter().filter(|span| kinds.contains(&span.kind));
+        fitting.copied().collect()
+    };
+    let (settings, later) = (of_kinds(&[Kind::LegacySettings]), of_kinds(&LATER));
+    match rng.below(12) {
+        0 | 1 => {}
+        2..=4 if !settings.is_empty() => spoil_some(rng, &mut file, &settings, 1),
+        5..=7 if !later.is_empty() => spoil_some(rng, &mut file, &later, 1),
+        _ => damage(rng, &mut file, &spans),
     }
     file
 }
@@ -208,7 +275,9 @@ pub fn contact(rng: &mut Rng, mut contact: Contact) -> Contact {
     }
     if rng.flag() {
         match &mut contact.info {
-            ContactInfo::Dmr { contact_type, .. } => *contact_type = rng.pick(&[0, 1, 2, 3, 4, 64, 128, 255]),
+            ContactInfo::Dmr { contact_type, .. } => {
+                *contact_type = rng.pick(&[0, 1, 2, 3, 4, 64, 128, 255])
+            }
             ContactInfo::M17(Address::Callsign(number)) => *number = sample::doubtful_number(rng),
             ContactInfo::M17(Address::Broadcast) => {}
         }

@@ -1,6 +1,7 @@
-//! `second validate` validates the file on standard input;
-//! `second corpus` writes cases with their expected answers; `second play` makes
-//! the calls of a script (see README.md).
+//! `second validate` validates the file on standard input, `second
+//! validate-legacy` does so by the legacy reading and `second migrate` migrates
+//! a legacy file; `second corpus` writes cases with their expected answers;
+//! `second play` makes the calls of a script (see README.md).
 
 mod calls;
 mod corpus;
@@ -14,14 +15,17 @@ use obcf_second::codeplug::{write_empty, HEADER_SIZE};
 use obcf_second::play::Player;
 use obcf_second::sample::Rng;
 use obcf_second::script::{self, Malformed};
-use obcf_second::{validate, Reason, Refusal};
+use obcf_second::{migrate, validate, validate_legacy, Counts, Reason, Refusal, LONGEST};
 
 const USAGE: &str = "usage: second validate < FILE
-       second corpus files|contacts|channels|addresses|mixed|read|channels-read|written|calls SEED COUNT OUT.bin OUT.txt
+       second validate-legacy < FILE
+       second migrate < FILE > OUT
+       second corpus files|contacts|channels|addresses|mixed|read|channels-read|written|calls|migrated SEED COUNT OUT.bin OUT.txt
        second play OPEN|empty OUT < SCRIPT";
 
-/// `second validate` reads at most this many bytes (paper: Examples).
-const MOST_INPUT: u64 = 65_536;
+/// `second validate` and `second validate-legacy` read at most this many bytes
+/// (paper: Examples).
+const MOST_INPUT: usize = 65_536;
 
 type Done = Result<(), Box<dyn Error>>;
 
@@ -29,7 +33,9 @@ fn main() -> ExitCode {
     let arguments: Vec<String> = std::env::args().skip(1).collect();
     let arguments: Vec<&str> = arguments.iter().map(String::as_str).collect();
     let done = match arguments[..] {
-        ["validate"] => validate_input(),
+        ["validate"] => validate_input(validate),
+        ["validate-legacy"] => validate_input(validate_legacy),
+        ["migrate"] => migrate_input(),
         ["corpus", kind, seed, count, bin, txt] => {
             match (corpus::generator(kind), seed.parse(), count.parse()) {
                 (Some(generate), Ok(seed), Ok(count)) => {
@@ -43,6 +49,11 @@ fn main() -> ExitCode {
     };
     match done {
         Ok(()) => ExitCode::SUCCESS,
+        // A refused migration: its line and nothing else.
+        Err(error) if error.is::<Refusal>() => {
+            eprintln!("{error}");
+            ExitCode::FAILURE
+        }
         Err(error) => {
             eprintln!("second: {error}");
             // What the caller has written wrongly is 2, as in `usage`.
@@ -56,19 +67,34 @@ fn usage() -> ExitCode {
     ExitCode::from(2)
 }
 
-fn validate_input() -> Done {
-    let mut input = Vec::new();
-    io::stdin()
-        .lock()
-        .take(MOST_INPUT + 1)
-        .read_to_end(&mut input)?;
-    let answer = if input.len() as u64 > MOST_INPUT {
+fn validate_input(validate: fn(&[u8]) -> Result<Counts, Refusal>) -> Done {
+    let input = input(MOST_INPUT)?;
+    let answer = if input.len() > MOST_INPUT {
         Err(Refusal::from(Reason::TooLong))
     } else {
         validate(&input)
     };
     writeln!(io::stdout(), "{}", corpus::validate_line(answer))?;
     Ok(())
+}
+
+/// Migrates a file of any length that a codeplug may have. Nothing is written
+/// where it is refused.
+fn migrate_input() -> Done {
+    let mut file = input(LONGEST)?;
+    migrate(&mut file)?;
+    io::stdout().write_all(&file)?;
+    Ok(())
+}
+
+/// The bytes on standard input; a single one past `most`, where there are more.
+fn input(most: usize) -> io::Result<Vec<u8>> {
+    let mut input = Vec::new();
+    io::stdin()
+        .lock()
+        .take(most as u64 + 1)
+        .read_to_end(&mut input)?;
+    Ok(input)
 }
 
 fn write_corpus(

@@ -126,14 +126,18 @@ impl ChannelInfo {
 // Bytes made of parts. Each `split` refuses what no valid record holds, and
 // each `join` does the same for parts that do not fit.
 
-/// Two bits, a flag and five zeros: traits and contact settings.
-fn split_settings(byte: u8) -> Option<(u8, bool)> {
-    let (contact_type, flag, rest) = (byte >> 6, byte & 0x20 != 0, byte & 0x1F);
-    (contact_type <= 2 && rest == 0).then_some((contact_type, flag))
+/// How a reading splits traits or contact settings into their number and flag.
+pub(crate) type Split = fn(u8) -> Option<(u8, bool)>;
+
+/// Traits and contact settings: a number in bits 0 and 1, a flag in bit 2 and
+/// five zeros. The legacy reading has its own order, see `legacy`.
+pub(crate) fn split_settings(byte: u8) -> Option<(u8, bool)> {
+    let (number, flag, rest) = (byte & 0x03, byte & 0x04 != 0, byte & 0xF8);
+    (number <= 2 && rest == 0).then_some((number, flag))
 }
 
-fn join_settings(contact_type: u8, flag: bool) -> Option<u8> {
-    (contact_type <= 2).then(|| contact_type << 6 | u8::from(flag) << 5)
+fn join_settings(number: u8, flag: bool) -> Option<u8> {
+    (number <= 2).then(|| u8::from(flag) << 2 | number)
 }
 
 /// Receive in the high nibble, transmit in the low.
@@ -168,10 +172,10 @@ impl Contact {
     /// Reads one record from its own bytes. Bytes past the record are not
     /// looked at.
     pub fn read(bytes: &[u8]) -> Result<Contact, Refusal> {
-        Contact::read_at(&mut Cursor::new(bytes))
+        Contact::read_at(&mut Cursor::new(bytes), split_settings)
     }
 
-    pub(crate) fn read_at(cursor: &mut Cursor) -> Result<Contact, Refusal> {
+    pub(crate) fn read_at(cursor: &mut Cursor, split: Split) -> Result<Contact, Refusal> {
         let name = cursor.text()?;
         let mode = cursor.u8()?.convert(Reason::Mode, Mode::of_contact)?;
         let info = if mode == Mode::M17 {
@@ -182,9 +186,13 @@ impl Contact {
             )
         } else {
             let id = cursor.u32()?.value;
-            let (contact_type, rx_tone) = cursor.u8()?.convert(Reason::Value, split_settings)?;
+            let (contact_type, rx_tone) = cursor.u8()?.convert(Reason::Value, split)?;
             cursor.pad()?;
-            ContactInfo::Dmr { id, contact_type, rx_tone }
+            ContactInfo::Dmr {
+                id,
+                contact_type,
+                rx_tone,
+            }
         };
         Ok(Contact { name, info })
     }
@@ -202,7 +210,11 @@ impl Contact {
             ContactInfo::M17(address) => {
                 record.put_valid(33, address.to_bytes(), Reason::Address)?;
             }
-            ContactInfo::Dmr { id, contact_type, rx_tone } => {
+            ContactInfo::Dmr {
+                id,
+                contact_type,
+                rx_tone,
+            } => {
                 record.put(33, id.to_le_bytes());
                 record.byte(37, join_settings(contact_type, rx_tone))?;
             }
@@ -216,16 +228,17 @@ impl Channel {
     /// Reads one record from its own bytes. Its contact index is not validated,
     /// as that needs the whole file. Bytes past the record are not looked at.
     pub fn read(bytes: &[u8]) -> Result<Channel, Refusal> {
-        Channel::read_at(&mut Cursor::new(bytes), |_, _| true)
+        Channel::read_at(&mut Cursor::new(bytes), split_settings, |_, _| true)
     }
 
     /// `names` tells whether an index names a contact of that mode.
     pub(crate) fn read_at(
         cursor: &mut Cursor,
+        split: Split,
         names: impl Fn(Mode, u16) -> bool,
     ) -> Result<Channel, Refusal> {
         let mode = cursor.u8()?.convert(Reason::Mode, Mode::from_byte)?;
-        let (bandwidth, receive_only) = cursor.u8()?.convert(Reason::Value, split_settings)?;
+        let (bandwidth, receive_only) = cursor.u8()?.convert(Reason::Value, split)?;
         let power = cursor.u8()?.value;
         let rx_frequency = cursor.u32()?.value;
         let tx_frequency = cursor.u32()?.value;

@@ -247,6 +247,67 @@ pub fn file(rng: &mut Rng, most: Shape) -> Vec<u8> {
     file
 }
 
+/// Traits and contact settings as they are written now and as they were written
+/// in legacy files: the numbers 0 to 2, each with the flag clear and then set.
+pub const SETTINGS: [(u8, u8); 6] = [
+    (0x00, 0x00),
+    (0x04, 0x20),
+    (0x01, 0x40),
+    (0x05, 0x60),
+    (0x02, 0x80),
+    (0x06, 0xA0),
+];
+
+/// A legacy file: valid by the legacy reading. Where all traits and contact
+/// settings are zero, it is valid by today's too.
+pub fn legacy_file(rng: &mut Rng, most: Shape) -> Vec<u8> {
+    let mut file = file(rng, most);
+    if rng.one_in(6) {
+        clear_settings(&mut file);
+    } else {
+        to_legacy(&mut file);
+    }
+    put_settings_into_addresses(rng, &mut file);
+    file
+}
+
+/// Puts the traits and contact settings of a valid file in the legacy order.
+pub fn to_legacy(file: &mut [u8]) {
+    for at in settings_places(file) {
+        let pair = SETTINGS.iter().find(|pair| pair.0 == file[at]);
+        file[at] = pair.expect("a valid byte").1;
+    }
+}
+
+fn clear_settings(file: &mut [u8]) {
+    for at in settings_places(file) {
+        file[at] = 0;
+    }
+}
+
+/// Where a file has its traits and contact settings.
+pub fn settings_places(file: &[u8]) -> Vec<usize> {
+    file_spans(file)
+        .iter()
+        .filter(|span| span.kind == Kind::Settings)
+        .map(|span| span.at)
+        .collect()
+}
+
+/// Gives some callsigns, at byte 37 of the contact, what would be legacy
+/// settings in a DMR contact. The last callsign has 0xFF there and after it, so
+/// none gets too large.
+fn put_settings_into_addresses(rng: &mut Rng, file: &mut [u8]) {
+    for span in file_spans(file) {
+        if span.kind == Kind::Address && rng.flag() {
+            let address = &mut file[span.at..span.at + span.size];
+            if *address != [0xFF; 6] {
+                address[4] = rng.pick(&SETTINGS[1..]).1;
+            }
+        }
+    }
+}
+
 fn count(rng: &mut Rng, most: usize) -> usize {
     rng.up_to(most as u64) as usize
 }
@@ -302,6 +363,8 @@ pub enum Kind {
     Mode,
     Address,
     Settings,
+    /// Traits and contact settings of a legacy file.
+    LegacySettings,
     Pad,
     ScanList,
     GroupList,
@@ -424,6 +487,17 @@ pub fn file_spans(file: &[u8]) -> Vec<Span> {
     ruler.spans
 }
 
+/// The fields of a legacy file.
+pub fn legacy_file_spans(file: &[u8]) -> Vec<Span> {
+    let mut spans = file_spans(file);
+    for span in &mut spans {
+        if span.kind == Kind::Settings {
+            span.kind = Kind::LegacySettings;
+        }
+    }
+    spans
+}
+
 fn u16_at(bytes: &[u8], at: usize) -> u16 {
     u16::from_le_bytes([bytes[at], bytes[at + 1]])
 }
@@ -472,9 +546,12 @@ pub fn spoil(rng: &mut Rng, bytes: &mut [u8], span: Span, limits: Limits) {
             field.copy_from_slice(&number.to_be_bytes()[2..]);
         }
         Kind::Settings => {
-            let bit = 1 << rng.below(8);
-            field[0] = rng.pick(&[0xC0, 0xE0, 0x80, 0xA0, 0x60, field[0] ^ bit, field[0] | 1]);
+            let n = rng.below(8);
+            let (other, reserved) = (field[0] ^ 1 << n, field[0] | 8 << (n % 5));
+            // 0x40 and 0xA0 are valid by the legacy reading.
+            field[0] = rng.pick(&[3, 7, 6, 0x40, 0xA0, other, reserved]);
         }
+        Kind::LegacySettings => field[0] = doubtful_legacy_settings(rng, field[0]),
         Kind::Pad => field[0] = rng.pick(&[1, 0x20, 0x80, 0xFF]),
         Kind::ScanList => field[0] = rng.pick(&[0, 249, 250, 251, 255]),
         Kind::GroupList => field[0] = rng.pick(&[0, 127, 128, 129, 130, 255]),
@@ -525,6 +602,20 @@ pub fn spoil(rng: &mut Rng, bytes: &mut [u8], span: Span, limits: Limits) {
                 field,
                 rng.pick(&[count, count, last, count.wrapping_add(1), 65_534, 65_535]),
             );
+        }
+    }
+}
+
+/// Doubtful traits or contact settings for a legacy file. The old byte in today's
+/// order is one choice in three.
+fn doubtful_legacy_settings(rng: &mut Rng, old: u8) -> u8 {
+    let pair = SETTINGS.iter().find(|pair| pair.1 == old);
+    match pair {
+        Some(pair) if rng.one_in(3) => pair.0,
+        _ => {
+            let other = old ^ 1 << rng.below(8);
+            let reserved = old | 1 << rng.below(5);
+            rng.pick(&[0xC0, 0xE0, 0xA0, 0x60, other, reserved, reserved])
         }
     }
 }

@@ -1,5 +1,6 @@
 //! The example table of the paper, row by row, and a few rules that its
-//! text settles without an example.
+//! text settles without an example. Traits and contact settings are those of
+//! paper 02, request [5].
 
 use obcf_second::address::{number_to_text, text_to_number, Address, BROADCAST};
 use obcf_second::codeplug::{self, write_empty};
@@ -131,6 +132,70 @@ fn tones() {
         record[85] = byte;
         let answer = Channel::read(&record).map(|_| ());
         assert_eq!(answer, if valid { Ok(()) } else { refused(7, 85) });
+    }
+}
+
+/// The number is bits 0 and 1, the flag bit 2, and the other five are zero.
+fn traits_byte(number: u8, flag: bool) -> u8 {
+    number + if flag { 4 } else { 0 }
+}
+
+#[test]
+fn traits() {
+    let mut record = [0; 90];
+    for byte in 0..=255 {
+        fm_channel().write(&mut record).unwrap();
+        record[1] = byte;
+        let (bandwidth, receive_only) = (byte % 4, byte >= 4);
+        let expected = match bandwidth {
+            0..=2 if byte < 8 => Ok(Channel {
+                bandwidth,
+                receive_only,
+                ..fm_channel()
+            }),
+            _ => refused(7, 1),
+        };
+        assert_eq!(Channel::read(&record), expected, "{byte}");
+        let channel = Channel {
+            bandwidth: byte,
+            receive_only: true,
+            ..fm_channel()
+        };
+        let mut out = [0xEE; 90];
+        match channel.write(&mut out) {
+            Ok(()) => assert_eq!((out[1], byte < 3), (traits_byte(byte, true), true)),
+            refusal => assert_eq!((refusal, byte < 3), (refused(7, 1), false)),
+        }
+    }
+}
+
+#[test]
+fn contact_settings() {
+    let contact = |contact_type, rx_tone| Contact {
+        name: Vec::new(),
+        info: ContactInfo::Dmr {
+            id: 0,
+            contact_type,
+            rx_tone,
+        },
+    };
+    for contact_type in 0..=255 {
+        for rx_tone in [false, true] {
+            let mut record = [0; 39];
+            let written = contact(contact_type, rx_tone).write(&mut record);
+            if contact_type > 2 {
+                assert_eq!(written, refused(7, 37));
+                continue;
+            }
+            assert_eq!(record[37], traits_byte(contact_type, rx_tone));
+            assert_eq!(Contact::read(&record), Ok(contact(contact_type, rx_tone)));
+        }
+    }
+    let mut record = [0; 39];
+    record[32] = 1;
+    for byte in (8..=255).chain([3, 7]) {
+        record[37] = byte;
+        assert_eq!(Contact::read(&record), refused(7, 37), "{byte}");
     }
 }
 

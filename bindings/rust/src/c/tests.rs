@@ -68,5 +68,5 @@ fn functions_as_in_the_header() {
     let (ours, _) = ours.split_once("\n}").unwrap();
     let ours: Vec<_> = ours.split_terminator(';').map(|s| on_one_line(s).replace("( ", "(").replace(", )", ")")).collect();
     assert_eq!(ours, there);
-    assert_eq!(there.len(), 22);
+    assert_eq!(there.len(), 24);
 }

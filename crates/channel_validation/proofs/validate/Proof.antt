@@ -1,32 +1,12 @@
--- The code is the definition's chain, field by field: every call's answer is put in, the last call's first.
-use Rattle.channel.specs.Rule.{channelRule}
+-- The byte's rule is the one of document 02, [5].
 use borrow.Author.Needs.{needs}
+use Rattle.channel.specs.Rule.{channelRule, headRule}
 use Rattle.channel_validation.proofs.validate.Statement.{statement}
 use Rattle.channel_validation.proofs.validate.Tie as tie
 
 returns : tie.Need-returns
-unfolding channelRule
-returns c =
-    let d = c .before .before .before in
-    rw (
-      c .first3 .ensures,
-      c .before .first2 .ensures,
-      c .before .before .first .ensures,
-      d .validate-info .ensures,
-      d .before .validate-location .ensures,
-      d .before .before .validate-texts .ensures,
-      d .before .before .before .validate-head .ensures,
-    )
+unfolding channelRule headRule
+returns c = rw (c .validate-by .ensures, c .before .number-flag-ok .ensures, c .before .before .byte-at .ensures)
 
 pub validate-spec : {M : Type 1} → statement M
-validate-spec =
-    tie.close
-    (tie.spec
-    (search needs)
-    (search needs)
-    (search needs)
-    (search needs)
-    (search needs)
-    (search needs)
-    (search needs)
-    returns)
+validate-spec = tie.close (tie.spec (search needs) (search needs) (search needs) returns)

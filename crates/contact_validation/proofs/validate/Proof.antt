@@ -1,33 +1,12 @@
--- The name, the mode and the info in order.
+-- The byte's rule is the one of document 02, [5].
 use borrow.Author.Needs.{needs}
-use Rattle.contact.specs.Contact.{contactRule}
+use Rattle.contact.specs.Contact.{contactRule, dmrRule}
 use Rattle.contact_validation.proofs.validate.Statement.{statement}
 use Rattle.contact_validation.proofs.validate.Tie as tie
 
 returns : tie.Need-returns
-unfolding contactRule
-returns c =
-    let b = c .before .before in
-    let d = b .before .before in
-    rw (
-      c .first2 .ensures,
-      c .before .first .ensures,
-      b .validate-info .ensures,
-      b .before .field .ensures,
-      d .mode-ok .ensures,
-      d .before .text-field .ensures,
-      d .before .before .byte-at .ensures,
-    )
+unfolding contactRule dmrRule
+returns c = rw (c .validate-by .ensures, c .before .number-flag-ok .ensures, c .before .before .byte-at .ensures)
 
 pub validate-spec : {M : Type 1} → statement M
-validate-spec =
-    tie.close
-    (tie.spec
-    (search needs)
-    (search needs)
-    (search needs)
-    (search needs)
-    (search needs)
-    (search needs)
-    (search needs)
-    returns)
+validate-spec = tie.close (tie.spec (search needs) (search needs) (search needs) returns)

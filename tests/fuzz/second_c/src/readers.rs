@@ -4,7 +4,7 @@ use codeplug::c::*;
 use obcf_second::address::{Address, BROADCAST};
 use obcf_second::codeplug as second;
 use obcf_second::record::{self, ContactInfo};
-use obcf_second::{Reason, Refusal};
+use obcf_second::{Counts, Reason, Refusal};
 
 use crate::refused::FromRefusal;
 use crate::slices::{buffer, bytes, put_text};
@@ -19,12 +19,16 @@ pub fn with_texts<A: FromRefusal>(texts: &mut [u8], size: usize, read: impl FnOn
     }
 }
 
-#[no_mangle]
-pub unsafe extern "C" fn second_validate(file: *const u8, length: usize) -> ValidateAnswer {
-    match second::validate(unsafe { bytes(file, length) }) {
+pub fn validated(result: Result<Counts, Refusal>) -> ValidateAnswer {
+    match result {
         Err(refusal) => ValidateAnswer::refused(refusal),
         Ok(c) => ValidateAnswer { contacts: c.contacts, channels: c.channels, banks: c.banks, ..ValidateAnswer::default() },
     }
+}
+
+#[no_mangle]
+pub unsafe extern "C" fn second_validate(file: *const u8, length: usize) -> ValidateAnswer {
+    validated(second::validate(unsafe { bytes(file, length) }))
 }
 
 #[no_mangle]

@@ -1,17 +1,15 @@
 -- Every field lies inside a whole record, so what is left of the rule is its tests.
 use Rattle.fields.proofs.Laws.{valid-both, valid-field}
-use Rattle.contact.specs.Contact.{dmrRule}
 use borrow.Author.Needs.{needs}
 use Rattle.contact_validation.proofs.whole.dmr_valid.Statement.{statement}
 use Rattle.contact_validation.proofs.whole.dmr_valid.Tie as tie
 
 returns : tie.Need-returns
-unfolding dmrRule
 returns c base =
-    let whole = c .before .before .before .before .pre in
-    rw (c .before .number-flag-ok .ensures) (simp (valid-both, valid-field, whole))
+    let whole = c .before .pre in
+    simp (valid-both, valid-field, whole)
 
 pub dmr-valid-spec : {M : Type 1} → statement M
 dmr-valid-spec =
     tie.close
-    (tie.spec (search needs) (search needs) (search needs) returns)
+    (tie.spec (search needs) returns)

@@ -1,0 +1,24 @@
+// Files of the legacy reading (document 02, [5]): validated, and migrated in place.
+use capi_convert::files::ValidateAnswer;
+ghost use mathlib.Core.Path.{_≡_};
+ghost use Rattle.legacy.specs.Reading.{legacyFileRule};
+ghost use Rattle.legacy.specs.Migration.{migratedBy};
+ghost use Rattle.legacy_validation.specs.Validation.{legacyValidation};
+ghost use Rattle.capi_convert.specs.Files.{validateAnswer};
+
+// Whether a file is accepted by the legacy reading, with its counts; beside a refusal they are 0.
+#[no_mangle]
+pub extern "C" fn codeplug_validate_legacy(file: &[u8]) -> ValidateAnswer
+    ensures { λ r. ⌜ r ≡ validateAnswer (legacyValidation (now (file .entry))) ⌝ }
+{
+    capi_convert::files::validate_answer(legacy_validation::validate(file))
+}
+
+// The same answer; an accepted file is migrated, a refused one stays as lent.
+#[no_mangle]
+pub extern "C" fn codeplug_migrate(file: &mut [u8]) -> ValidateAnswer
+    ensures { λ r. ⌜ (r ≡ validateAnswer (legacyValidation (now (file .entry))))
+        × (now (file .exit) ≡ migratedBy (legacyFileRule (now (file .entry))) (now (file .entry))) ⌝ }
+{
+    capi_convert::files::validate_answer(migration::migrate(file))
+}

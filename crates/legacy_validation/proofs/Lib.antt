@@ -1,0 +1,2 @@
+-- Laws of a legacy channel's contact index.
+pub mod IndexLaws

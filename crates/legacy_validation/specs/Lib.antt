@@ -1,0 +1,2 @@
+-- What validation by the legacy reading answers.
+pub mod Validation

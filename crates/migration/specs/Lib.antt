@@ -1,0 +1,2 @@
+-- What is promised of a migrated file.
+pub mod Promise
