@@ -218,7 +218,10 @@ pub fn history(mut args: Args, out: &mut Out) -> Done {
     let mut state = file.clone();
     for n in 0..history.commands.len().min(most) {
         let Some(before) = history.take_back(state, n) else {
-            return Err(Fail::Io(format!("{}: its history is damaged, or goes back to a legacy codeplug, and what follows cannot be undone", shown(&name))));
+            return Err(Fail::Io(format!(
+                "{}: its history is damaged, or goes back to a legacy codeplug, and what follows cannot be undone",
+                shown(&name)
+            )));
         };
         let older = Records::of(&before).map_err(refused)?;
         out.line(&(n + 1).to_string())?;
