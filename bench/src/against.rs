@@ -15,7 +15,8 @@ const SLOWER: f64 = 1.05;
 /// One figure of the table: its name and, of each round, both times.
 type Figure = (String, Vec<[f64; 2]>);
 
-/// A table's rows as single figures. A library from before version 2.0.0 has the legacy reading alone, so the files are valid by both.
+/// A table's rows as single figures. A library from before version 2.0.0 has the legacy reading alone, so the files are valid by both. Rows
+/// by the newer edition are there where both libraries have it (library.rs).
 fn figures(makers: [Maker; 2]) -> Vec<(String, [f64; 2])> {
     let batches = [64 << 10, 1 << 20].map(|size| Batch::whole(size, Settings::Zero));
     let parts: [(&[&str], Vec<Row<2>>); 3] = [

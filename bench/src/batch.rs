@@ -4,8 +4,9 @@ use crate::cases::{self, Case};
 use crate::files::{self, Settings};
 use crate::makers::{Buffer, Maker, Set, MAKERS};
 use crate::timing::{medians, Timed};
+use crate::work::OLDER;
 use obcf_second::edit::Edit;
-use obcf_second::sample;
+use obcf_second::{sample, Edition};
 
 pub const WHOLE: usize = 1 << 20;
 
@@ -26,6 +27,21 @@ impl Batch {
         Batch {
             sets: sets.collect(),
             settings,
+        }
+    }
+
+    /// As many files of contacts alone, of the same size.
+    pub fn of_contacts(&self, edition: Edition) -> Batch {
+        let contacts = |(seed, set): (usize, &Set)| {
+            let file = files::contacts(set.room.bytes.len(), seed as u64, edition);
+            Set {
+                room: Buffer::new(&file, file.len()),
+                past: Buffer::new(&[], 0),
+            }
+        };
+        Batch {
+            sets: self.sets.iter().enumerate().map(contacts).collect(),
+            ..*self
         }
     }
 
@@ -63,8 +79,8 @@ impl Batch {
             sample::to_legacy(&mut file);
             for maker in makers {
                 let mut copy = file.clone();
-                let answer = maker.migrate(&mut copy).expect("accepted");
-                let counts = maker.validate(set.file()).expect("accepted");
+                let answer = maker.migrate(&mut copy, OLDER).expect("accepted");
+                let counts = maker.validate(set.file(), OLDER).expect("accepted");
                 assert!(answer == counts && copy == set.file(), "they differ");
             }
             file
@@ -115,8 +131,8 @@ fn made(makers: &[Maker], set: &Set, edit: Option<&Edit>) -> Set {
         .map(|maker| {
             let mut set = set.clone();
             let answer = match edit {
-                Some(edit) => maker.edit(&mut set, edit),
-                None => maker.undo(&mut set),
+                Some(edit) => maker.edit(&mut set, edit, OLDER),
+                None => maker.undo(&mut set, OLDER),
             };
             let answer = answer.expect("accepted");
             set.grown(&answer);

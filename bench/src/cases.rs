@@ -1,6 +1,7 @@
 //! The edits that are timed: every kind, at the front, the middle and the end of its list.
 
 use crate::files::{self, Settings};
+use crate::work::OLDER;
 use obcf_second::edit::Edit;
 use obcf_second::sample::{self, Rng};
 
@@ -45,7 +46,7 @@ fn entry_counts(file: &[u8]) -> Vec<usize> {
 
 fn record(rng: &mut Rng, kind: usize, settings: Settings) -> Vec<u8> {
     match kind {
-        1 | 3 => sample::contact_bytes(&files::contact(rng, settings)),
+        1 | 3 => sample::contact_bytes(&files::contact(rng, settings), OLDER),
         4 | 6 => sample::channel_bytes(&files::channel(rng, &[], settings)),
         7 | 9 => files::text(rng, 16),
         10 => vec![1, 0],

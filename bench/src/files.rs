@@ -2,8 +2,11 @@
 //!
 //! The first, middle and last contact are named by no channel, and those channels stand in no bank, so that they can be removed.
 
+use crate::work::OLDER;
+use obcf_second::address::Address;
 use obcf_second::record::{Channel, Contact, ContactInfo, Mode};
 use obcf_second::sample::{self, Rng};
+use obcf_second::Edition;
 
 /// Bytes left free below the size, so that an insertion stays within it.
 pub const SPARE: usize = 256;
@@ -41,14 +44,34 @@ pub fn typical(size: usize, seed: u64, settings: Settings) -> Vec<u8> {
 
     let mut file = header(rng, [contacts, channels, banks]);
     for contact in &made {
-        file.extend(sample::contact_bytes(contact));
+        file.extend(sample::contact_bytes(contact, OLDER));
     }
     for _ in 0..channels {
         file.extend(sample::channel_bytes(&channel(rng, &named, settings)));
     }
     add_banks(&mut file, rng, banks, left, channels);
     assert_eq!(file.len(), length);
-    obcf_second::codeplug::validate(&file).expect("a valid file");
+    obcf_second::codeplug::validate(&file, OLDER).expect("a valid file");
+    file
+}
+
+/// A file of M17 contacts alone, as many as the size holds: callsigns by the older edition, hash addresses by the newer.
+pub fn contacts(size: usize, seed: u64, edition: Edition) -> Vec<u8> {
+    let rng = &mut Rng::new(seed);
+    let count = (size - 88) / 39;
+    let mut file = header(rng, [count, 0, 0]);
+    for _ in 0..count {
+        let number = match edition {
+            Edition::Older => sample::callsign_number(rng, edition),
+            Edition::Newer => sample::hash_number(rng),
+        };
+        let contact = Contact {
+            name: name(rng, 16),
+            info: ContactInfo::M17(Address::Callsign(number)),
+        };
+        file.extend(sample::contact_bytes(&contact, edition));
+    }
+    obcf_second::codeplug::validate(&file, edition).expect("a valid file");
     file
 }
 
@@ -100,7 +123,7 @@ fn name(rng: &mut Rng, most: usize) -> Vec<u8> {
 }
 
 pub fn contact(rng: &mut Rng, settings: Settings) -> Contact {
-    let mut made = sample::contact(rng);
+    let mut made = sample::contact(rng, OLDER);
     made.name = name(rng, 16);
     if let ContactInfo::Dmr {
         contact_type,

@@ -1,5 +1,10 @@
 //! A build of the library loaded from its file, libcodeplug.so: the functions that are timed. They have to be those of this
 //! bindings/c/include/codeplug.h, or the same under their former names. A library from before version 2.0.0 has none for legacy files.
+//!
+//! A library from before version 3.0.0 has no editions: its functions are called with the edition as one argument too many. By the calling
+//! convention of x86-64 Linux that is harmless. The last argument stands in a register or a stack slot of its own, which such a function
+//! does not look at; the others stand where they would without it; and the caller takes its slots off the stack again. It answers as by the
+//! older edition.
 
 use codeplug::c;
 use std::ffi::{c_char, c_int, c_void, CStr, CString};
@@ -86,18 +91,27 @@ macro_rules! functions {
 
 functions! {
     always {
-        codeplug_validate(*const u8, usize) -> c::ValidateAnswer;
-        codeplug_contact_prevalidated(*const u8, usize, usize, *mut u8, usize) -> c::ContactAnswer;
+        codeplug_validate(*const u8, usize, u32) -> c::ValidateAnswer;
+        codeplug_contact_prevalidated(*const u8, usize, usize, *mut u8, usize, u32) -> c::ContactAnswer;
         codeplug_channel_prevalidated(*const u8, usize, usize, *mut u8, usize) -> c::ChannelAnswer;
         codeplug_bank_prevalidated(*const u8, usize, usize, *mut u8, usize) -> c::BankAnswer;
         codeplug_bank_entry_prevalidated(*const u8, usize, usize, usize) -> c::BankEntryAnswer;
-        codeplug_encode_callsign(*const u8, usize) -> c::EncodeAnswer;
-        codeplug_decode_address(u64, *mut u8, usize) -> c::DecodeAnswer;
-        codeplug_edit(*mut u8, usize, usize, *mut u8, usize, usize, usize, usize, usize, *const u8, usize) -> c::EditAnswer;
-        codeplug_undo(*mut u8, usize, usize, *mut u8, usize, usize) -> c::EditAnswer;
+        codeplug_encode_callsign(*const u8, usize, u32) -> c::EncodeAnswer;
+        codeplug_decode_address(u64, *mut u8, usize, u32) -> c::DecodeAnswer;
+        codeplug_edit(*mut u8, usize, usize, *mut u8, usize, usize, usize, usize, usize, *const u8, usize, u32) -> c::EditAnswer;
+        codeplug_undo(*mut u8, usize, usize, *mut u8, usize, usize, u32) -> c::EditAnswer;
     }
     maybe {
-        codeplug_validate_legacy(*const u8, usize) -> c::ValidateAnswer;
-        codeplug_migrate(*mut u8, usize) -> c::ValidateAnswer;
+        codeplug_version() -> u32;
+        codeplug_validate_legacy(*const u8, usize, u32) -> c::ValidateAnswer;
+        codeplug_migrate(*mut u8, usize, u32) -> c::ValidateAnswer;
+    }
+}
+
+impl Library {
+    /// The number before the first point of its version; 0 for a library from before 1.0.0, which does not tell it.
+    pub fn major_version(&self) -> u32 {
+        self.codeplug_version
+            .map_or(0, |version| unsafe { version() } >> 16)
     }
 }

@@ -4,7 +4,7 @@ use crate::lean;
 use crate::library::{Library, LINKED};
 use codeplug::c;
 use obcf_second::edit::{Answer, Edit};
-use obcf_second::{Counts, Refusal};
+use obcf_second::{Counts, Edition, Refusal};
 
 #[derive(Clone, Copy)]
 pub enum Maker {
@@ -90,7 +90,7 @@ fn validated(a: c::ValidateAnswer) -> Result<Counts, Refusal> {
 }
 
 impl Maker {
-    pub fn edit(self, set: &mut Set, edit: &Edit) -> Result<Answer, Refusal> {
+    pub fn edit(self, set: &mut Set, edit: &Edit, edition: Edition) -> Result<Answer, Refusal> {
         let (length, used) = (set.room.length, set.past.length);
         let (room, past) = (&mut set.room.bytes, &mut set.past.bytes);
         match self {
@@ -108,14 +108,15 @@ impl Maker {
                     edit.second,
                     edit.record.as_ptr(),
                     edit.record.len(),
+                    edition as u32,
                 )
             }),
-            Maker::Second => obcf_second::edit::edit(room, length, past, used, edit),
-            Maker::Lean => lean::edit::edit(room, length, past, used, edit),
+            Maker::Second => obcf_second::edit::edit(room, length, past, used, edit, edition),
+            Maker::Lean => lean::edit::edit(room, length, past, used, edit, edition),
         }
     }
 
-    pub fn undo(self, set: &mut Set) -> Result<Answer, Refusal> {
+    pub fn undo(self, set: &mut Set, edition: Edition) -> Result<Answer, Refusal> {
         let (length, used) = (set.room.length, set.past.length);
         let (room, past) = (&mut set.room.bytes, &mut set.past.bytes);
         match self {
@@ -127,24 +128,25 @@ impl Maker {
                     past.as_mut_ptr(),
                     past.len(),
                     used,
+                    edition as u32,
                 )
             }),
-            Maker::Second => obcf_second::edit::undo(room, length, past, used),
-            Maker::Lean => lean::edit::undo(room, length, past, used),
+            Maker::Second => obcf_second::edit::undo(room, length, past, used, edition),
+            Maker::Lean => lean::edit::undo(room, length, past, used, edition),
         }
     }
 
-    pub fn validate(self, file: &[u8]) -> Result<Counts, Refusal> {
+    pub fn validate(self, file: &[u8], edition: Edition) -> Result<Counts, Refusal> {
         match self {
-            Maker::Proved(library) => {
-                validated(unsafe { (library.codeplug_validate)(file.as_ptr(), file.len()) })
-            }
-            Maker::Second => obcf_second::codeplug::validate(file),
-            Maker::Lean => lean::validate::validate(file),
+            Maker::Proved(library) => validated(unsafe {
+                (library.codeplug_validate)(file.as_ptr(), file.len(), edition as u32)
+            }),
+            Maker::Second => obcf_second::codeplug::validate(file, edition),
+            Maker::Lean => lean::validate::validate(file, edition),
         }
     }
 
-    /// Whether it has the next two, which a library from before version 2.0.0 has not.
+    /// Whether it has `validate_legacy` and `migrate`, which a library from before version 2.0.0 has not.
     pub fn reads_legacy(self) -> bool {
         match self {
             Maker::Proved(library) => library.codeplug_migrate.is_some(),
@@ -152,25 +154,33 @@ impl Maker {
         }
     }
 
-    pub fn validate_legacy(self, file: &[u8]) -> Result<Counts, Refusal> {
+    /// Whether it has the newer edition, which a library from before version 3.0.0 has not.
+    pub fn has_editions(self) -> bool {
         match self {
-            Maker::Proved(library) => {
-                let validate = library.codeplug_validate_legacy.expect("it reads legacy");
-                validated(unsafe { validate(file.as_ptr(), file.len()) })
-            }
-            Maker::Second => obcf_second::legacy::validate_legacy(file),
-            Maker::Lean => lean::validate::validate_legacy(file),
+            Maker::Proved(library) => library.major_version() >= 3,
+            _ => true,
         }
     }
 
-    pub fn migrate(self, file: &mut [u8]) -> Result<Counts, Refusal> {
+    pub fn validate_legacy(self, file: &[u8], edition: Edition) -> Result<Counts, Refusal> {
+        match self {
+            Maker::Proved(library) => {
+                let validate = library.codeplug_validate_legacy.expect("it reads legacy");
+                validated(unsafe { validate(file.as_ptr(), file.len(), edition as u32) })
+            }
+            Maker::Second => obcf_second::legacy::validate_legacy(file, edition),
+            Maker::Lean => lean::validate::validate_legacy(file, edition),
+        }
+    }
+
+    pub fn migrate(self, file: &mut [u8], edition: Edition) -> Result<Counts, Refusal> {
         match self {
             Maker::Proved(library) => {
                 let migrate = library.codeplug_migrate.expect("it reads legacy");
-                validated(unsafe { migrate(file.as_mut_ptr(), file.len()) })
+                validated(unsafe { migrate(file.as_mut_ptr(), file.len(), edition as u32) })
             }
-            Maker::Second => obcf_second::legacy::migrate(file),
-            Maker::Lean => lean::migrate::migrate(file),
+            Maker::Second => obcf_second::legacy::migrate(file, edition),
+            Maker::Lean => lean::migrate::migrate(file, edition),
         }
     }
 }

@@ -3,7 +3,7 @@
 use crate::batch::{per_byte, Batch};
 use crate::files::Settings;
 use crate::makers::{Maker, MAKERS};
-use crate::work::{Calling, Validating};
+use crate::work::{Calling, Validating, OLDER};
 use obcf_second::edit::Edit;
 use std::fmt::Write;
 
@@ -26,6 +26,7 @@ fn measure() -> [Vec<Point>; 3] {
         per_byte(RUNS, &batches, MAKERS, |_, sets, maker| Validating {
             maker,
             sets,
+            edition: OLDER,
         }),
         per_byte(RUNS, &batches, MAKERS, |n, sets, maker| {
             Calling::new(maker, sets, Some(&edits[n]))

@@ -4,7 +4,7 @@ use crate::batch::Batch;
 use crate::files::Settings;
 use crate::makers::{Maker, MAKERS};
 use crate::timing::Timed;
-use crate::work::{Calling, Migrating, Reading, Validating, ValidatingLegacy};
+use crate::work::{Calling, Migrating, Reading, Validating, ValidatingLegacy, OLDER};
 
 const SIZE: usize = 1 << 20;
 
@@ -23,7 +23,17 @@ pub fn run(maker: &str, what: &str, kind: usize, times: usize) {
         .find(|(case, _)| case.middle && case.edit.kind == kind as u64);
     let edits = case.map(|(_, edits)| edits.as_slice()).unwrap_or_default();
     match what {
-        "validate" => repeat(times, Validating { maker, sets }),
+        "validate" => {
+            let edition = OLDER;
+            repeat(
+                times,
+                Validating {
+                    maker,
+                    sets,
+                    edition,
+                },
+            )
+        }
         "read" => repeat(times, Reading { maker, sets }),
         "validate-legacy" => {
             let files = &batch.legacy(&MAKERS);

@@ -5,23 +5,33 @@ use crate::files::Settings;
 use crate::makers::{Maker, MAKERS};
 use crate::timing::medians;
 use crate::work::{
-    Calling, Decoding, Encoding, Listing, Migrating, Reading, Validating, ValidatingLegacy,
+    Calling, Decoding, Encoding, Listing, Migrating, Reading, Validating, ValidatingLegacy, OLDER,
 };
 use obcf_second::address::number_to_text;
 use obcf_second::edit::Edit;
 use obcf_second::sample::{self, Rng};
+use obcf_second::Edition;
 
 const RUNS: usize = 41;
 
 /// A row's name and the medians of some makers, for each batch.
 pub type Row<const N: usize> = (String, Vec<[f64; N]>);
 
-/// Nanoseconds per byte of validating and reading.
-fn reading<const N: usize>(batches: &[Batch], makers: [Maker; N]) -> Vec<Row<N>> {
-    let validate = per_byte(RUNS, batches, makers, |_, sets, maker| Validating {
+fn validating<const N: usize>(
+    batches: &[Batch],
+    makers: [Maker; N],
+    edition: Edition,
+) -> Vec<[f64; N]> {
+    per_byte(RUNS, batches, makers, |_, sets, maker| Validating {
         maker,
         sets,
-    });
+        edition,
+    })
+}
+
+/// Nanoseconds per byte of validating and reading.
+fn reading<const N: usize>(batches: &[Batch], makers: [Maker; N]) -> Vec<Row<N>> {
+    let validate = validating(batches, makers, OLDER);
     let list = per_byte(RUNS, batches, makers, |_, sets, maker| Listing {
         maker,
         sets,
@@ -56,6 +66,21 @@ fn legacy<const N: usize>(batches: &[Batch], makers: [Maker; N]) -> Vec<Row<N>> 
     ]
 }
 
+/// Of files of contacts alone: callsigns by the older edition, and hash addresses by the newer where all makers have it.
+fn contacts<const N: usize>(batches: &[Batch], makers: [Maker; N]) -> Vec<Row<N>> {
+    let of = |edition| {
+        let of_batch = |batch: &Batch| batch.of_contacts(edition);
+        let batches: Vec<Batch> = batches.iter().map(of_batch).collect();
+        validating(&batches, makers, edition)
+    };
+    let mut rows = vec![("validate callsigns".to_string(), of(OLDER))];
+    if makers.iter().all(|maker| maker.has_editions()) {
+        let hash = of(Edition::Newer);
+        rows.push(("validate hash addresses, newer".to_string(), hash));
+    }
+    rows
+}
+
 /// Of an edit of each file, and of its undo.
 fn calling<const N: usize>(
     name: &str,
@@ -88,6 +113,7 @@ pub fn rows<const N: usize>(
 ) -> Vec<Row<N>> {
     let mut rows = reading(batches, makers);
     rows.extend(legacy(batches, makers));
+    rows.extend(contacts(batches, makers));
     let cases: Vec<_> = batches.iter().map(Batch::cases).collect();
     let mut undos = Vec::new();
     for (n, (case, _)) in cases[0].iter().enumerate() {
@@ -109,32 +135,64 @@ pub fn learnt<const N: usize>(makers: [Maker; N], settings: Settings) -> Vec<Row
     })
 }
 
-/// Nanoseconds per call.
-pub fn addresses<const N: usize>(makers: [Maker; N]) -> Vec<Row<N>> {
-    let rng = &mut Rng::new(40);
-    let numbers: Vec<u64> = (0..8_192).map(|_| sample::callsign_number(rng)).collect();
-    let texts: Vec<Vec<u8>> = numbers
-        .iter()
-        .map(|&number| {
+/// Numbers, and their texts.
+struct Addresses {
+    numbers: Vec<u64>,
+    texts: Vec<Vec<u8>>,
+}
+
+impl Addresses {
+    fn new(make: impl Fn(&mut Rng) -> u64) -> Addresses {
+        let rng = &mut Rng::new(40);
+        let numbers: Vec<u64> = (0..8_192).map(|_| make(rng)).collect();
+        let text = |&number: &u64| {
             let mut text = [0; 9];
-            number_to_text(number, &mut text).expect("a callsign");
+            number_to_text(number, &mut text, Edition::Newer).expect("an address");
             text.iter().copied().take_while(|&b| b != 0).collect()
-        })
-        .collect();
-    let (texts, numbers) = (&texts, &numbers);
-    let encoding = makers.map(|maker| Encoding { maker, texts });
-    let decoding = makers.map(|maker| Decoding { maker, numbers });
-    let each = |times: Vec<f64>| vec![std::array::from_fn(|n| times[n] / numbers.len() as f64)];
-    vec![
-        (
-            "callsign to address".to_string(),
-            each(medians(RUNS, encoding.into())),
-        ),
-        (
-            "address to callsign".to_string(),
-            each(medians(RUNS, decoding.into())),
-        ),
-    ]
+        };
+        let texts = numbers.iter().map(text).collect();
+        Addresses { numbers, texts }
+    }
+
+    /// Nanoseconds per call, texts to numbers and numbers to texts.
+    fn rows<const N: usize>(
+        &self,
+        names: [&str; 2],
+        makers: [Maker; N],
+        edition: Edition,
+    ) -> [Row<N>; 2] {
+        let Addresses { numbers, texts } = self;
+        let encoding = makers.map(|maker| Encoding {
+            maker,
+            texts,
+            edition,
+        });
+        let decoding = makers.map(|maker| Decoding {
+            maker,
+            numbers,
+            edition,
+        });
+        let times = [
+            medians(RUNS, encoding.into()),
+            medians(RUNS, decoding.into()),
+        ];
+        let each = |n: usize| std::array::from_fn(|m| times[n][m] / numbers.len() as f64);
+        [0, 1].map(|n| (names[n].to_string(), vec![each(n)]))
+    }
+}
+
+/// Callsigns and hash addresses each way; by the newer edition where all makers have it.
+pub fn addresses<const N: usize>(makers: [Maker; N]) -> Vec<Row<N>> {
+    let callsigns = Addresses::new(|rng| sample::callsign_number(rng, OLDER));
+    let names = ["callsign to address", "address to callsign"];
+    let mut rows = callsigns.rows(names, makers, OLDER).to_vec();
+    if makers.iter().all(|maker| maker.has_editions()) {
+        let names = ["callsign to address, newer", "address to callsign, newer"];
+        rows.extend(callsigns.rows(names, makers, Edition::Newer));
+        let names = ["hash text to address, newer", "hash address to text, newer"];
+        rows.extend(Addresses::new(sample::hash_number).rows(names, makers, Edition::Newer));
+    }
+    rows
 }
 
 fn cells([proved, second, lean]: [f64; 3], digits: usize) -> String {

@@ -6,18 +6,22 @@ use crate::makers::{Maker, Set};
 use crate::timing::Timed;
 use obcf_second::address::{number_to_text, text_to_number};
 use obcf_second::edit::Edit;
-use obcf_second::Codeplug;
+use obcf_second::{Codeplug, Edition};
 use std::hint::black_box;
+
+/// The edition that files are timed by, but for those with hash addresses.
+pub const OLDER: Edition = Edition::Older;
 
 pub struct Validating<'a> {
     pub maker: Maker,
     pub sets: &'a [Set],
+    pub edition: Edition,
 }
 
 impl Timed for Validating<'_> {
     fn call(&mut self) {
         for set in self.sets {
-            black_box(self.maker.validate(black_box(set.file()))).expect("accepted");
+            black_box(self.maker.validate(black_box(set.file()), self.edition)).expect("accepted");
         }
     }
 }
@@ -34,10 +38,10 @@ impl Timed for Listing<'_> {
             let file = black_box(set.file());
             match self.maker {
                 Maker::Proved(_) => {
-                    black_box(self.maker.validate(file)).expect("accepted");
+                    black_box(self.maker.validate(file, OLDER)).expect("accepted");
                 }
-                Maker::Second => drop(black_box(Codeplug::read(file)).expect("accepted")),
-                Maker::Lean => drop(black_box(lean::read::lists(file)).expect("accepted")),
+                Maker::Second => drop(black_box(Codeplug::read(file, OLDER)).expect("accepted")),
+                Maker::Lean => drop(black_box(lean::read::lists(file, OLDER)).expect("accepted")),
             }
         }
     }
@@ -55,8 +59,8 @@ impl Timed for Reading<'_> {
             let file = black_box(set.file());
             match self.maker {
                 Maker::Proved(library) => read_proved(library, file),
-                Maker::Second => drop(black_box(Codeplug::read(file)).expect("accepted")),
-                Maker::Lean => lean::read::read_all(file).expect("accepted"),
+                Maker::Second => drop(black_box(Codeplug::read(file, OLDER)).expect("accepted")),
+                Maker::Lean => lean::read::read_all(file, OLDER).expect("accepted"),
             }
         }
     }
@@ -68,10 +72,11 @@ fn read_proved(c: &Library, file: &[u8]) {
     let into = texts.as_mut_ptr();
     // Pointers and lengths are those of `file` and `texts`.
     unsafe {
-        let counts = (c.codeplug_validate)(at, length);
+        let counts = (c.codeplug_validate)(at, length, OLDER as u32);
         assert_eq!(counts.number, 0);
         for n in 0..usize::from(counts.contacts) {
-            black_box(&(c.codeplug_contact_prevalidated)(at, length, n, into, 32));
+            let contact = (c.codeplug_contact_prevalidated)(at, length, n, into, 32, OLDER as u32);
+            black_box(&contact);
         }
         for n in 0..usize::from(counts.channels) {
             black_box(&(c.codeplug_channel_prevalidated)(at, length, n, into, 64));
@@ -94,7 +99,7 @@ pub struct ValidatingLegacy<'a> {
 impl Timed for ValidatingLegacy<'_> {
     fn call(&mut self) {
         for file in self.files {
-            black_box(self.maker.validate_legacy(black_box(file))).expect("accepted");
+            black_box(self.maker.validate_legacy(black_box(file), OLDER)).expect("accepted");
         }
     }
 }
@@ -125,7 +130,7 @@ impl Timed for Migrating<'_> {
 
     fn call(&mut self) {
         for copy in &mut self.copies {
-            black_box(self.maker.migrate(black_box(copy))).expect("accepted");
+            black_box(self.maker.migrate(black_box(copy), OLDER)).expect("accepted");
         }
     }
 }
@@ -160,54 +165,58 @@ impl Timed for Calling<'_> {
     fn call(&mut self) {
         for (n, copy) in self.copies.iter_mut().enumerate() {
             let answer = match self.edits {
-                Some(edits) => self.maker.edit(copy, black_box(&edits[n])),
-                None => self.maker.undo(copy),
+                Some(edits) => self.maker.edit(copy, black_box(&edits[n]), OLDER),
+                None => self.maker.undo(copy, OLDER),
             };
             black_box(answer).expect("accepted");
         }
     }
 }
 
-/// Callsigns to numbers.
+/// Texts to numbers.
 pub struct Encoding<'a> {
     pub maker: Maker,
     pub texts: &'a [Vec<u8>],
+    pub edition: Edition,
 }
 
 impl Timed for Encoding<'_> {
     fn call(&mut self) {
+        let edition = black_box(self.edition);
         for text in self.texts {
             let text = black_box(text.as_slice());
             match self.maker {
                 Maker::Proved(c) => {
-                    black_box(&unsafe { (c.codeplug_encode_callsign)(text.as_ptr(), text.len()) });
+                    let encode = c.codeplug_encode_callsign;
+                    black_box(&unsafe { encode(text.as_ptr(), text.len(), edition as u32) });
                 }
-                Maker::Second => drop(black_box(text_to_number(text))),
-                Maker::Lean => drop(black_box(lean::address::encode(text))),
+                Maker::Second => drop(black_box(text_to_number(text, edition))),
+                Maker::Lean => drop(black_box(lean::address::encode(text, edition))),
             }
         }
     }
 }
 
-/// Numbers to callsigns.
+/// Numbers to texts.
 pub struct Decoding<'a> {
     pub maker: Maker,
     pub numbers: &'a [u64],
+    pub edition: Edition,
 }
 
 impl Timed for Decoding<'_> {
     fn call(&mut self) {
+        let edition = black_box(self.edition);
         let mut text = [0; 9];
         for &number in self.numbers {
             let number = black_box(number);
             match self.maker {
                 Maker::Proved(c) => {
-                    black_box(&unsafe {
-                        (c.codeplug_decode_address)(number, text.as_mut_ptr(), 9)
-                    });
+                    let decode = c.codeplug_decode_address;
+                    black_box(&unsafe { decode(number, text.as_mut_ptr(), 9, edition as u32) });
                 }
-                // The second program's way is short already.
-                _ => drop(black_box(number_to_text(number, &mut text))),
+                Maker::Second => drop(black_box(number_to_text(number, &mut text, edition))),
+                Maker::Lean => drop(black_box(lean::address::decode(number, &mut text, edition))),
             }
             black_box(&text);
         }

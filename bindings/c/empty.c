@@ -10,6 +10,9 @@ static size_t length;
 static uint8_t history[200];
 static size_t used;
 
+/* One edition of M17 addresses throughout: here the older one. */
+static const uint32_t edition = CODEPLUG_EDITION_OLDER;
+
 static void print_refused(const char *what, unsigned number, size_t place)
 {
     printf("%s: refused %u at %zu: %s\n", what, number, place, codeplug_refusal_text(number));
@@ -27,7 +30,8 @@ static void print_call(const char *what, struct codeplug_edit_answer a)
 
 static void edit(const char *what, size_t kind, size_t first, const uint8_t *record, size_t record_length)
 {
-    print_call(what, codeplug_edit(room, sizeof room, length, history, sizeof history, used, kind, first, 0, record, record_length));
+    print_call(what,
+        codeplug_edit(room, sizeof room, length, history, sizeof history, used, kind, first, 0, record, record_length, edition));
 }
 
 static void write_text(uint8_t *out, size_t out_length, const char *text)
@@ -46,7 +50,7 @@ static int write_empty(void)
     if (room[0] != 7 || codeplug_write_empty(room, sizeof room).number != CODEPLUG_OK || room[CODEPLUG_HEADER_SIZE] != 7)
         return 1;
     length = CODEPLUG_HEADER_SIZE;
-    struct codeplug_validate_answer a = codeplug_validate(room, length);
+    struct codeplug_validate_answer a = codeplug_validate(room, length, edition);
     printf("empty: %u, %zu bytes, %u contacts, %u channels, %u banks\n", a.number, length, a.contacts, a.channels, a.banks);
     return 0;
 }
@@ -60,7 +64,7 @@ static void texts(void)
     write_text(name, sizeof name, "Field day");
     edit("bank", CODEPLUG_INSERT_BANK, 0, name, sizeof name);
     memset(name, 7, sizeof name);
-    struct codeplug_bank_answer b = codeplug_bank(room, length, 0, name, sizeof name);
+    struct codeplug_bank_answer b = codeplug_bank(room, length, 0, name, sizeof name, edition);
     printf("bank 0: %u, \"%.*s\", %u entries\n", b.number, (int)codeplug_text_length(name), (const char *)name, b.entries);
 }
 
@@ -80,7 +84,7 @@ static void set_header(void)
     write_text(record + CODEPLUG_TEXT_SIZE, CODEPLUG_TEXT_SIZE, "");
     record[CODEPLUG_TEXTS_SIZE] = 1;
     edit("header", CODEPLUG_SET_HEADER, 0, record, sizeof record);
-    struct codeplug_header_answer h = codeplug_header(room, length, fields, sizeof fields);
+    struct codeplug_header_answer h = codeplug_header(room, length, fields, sizeof fields, edition);
     const uint8_t *author = fields, *description = fields + CODEPLUG_TEXT_SIZE;
     printf("header: %u, \"%.*s\", \"%.*s\", timestamp %u, %u banks\n", h.number, (int)codeplug_text_length(author), (const char *)author,
         (int)codeplug_text_length(description), (const char *)description, (unsigned)h.timestamp, h.banks);
@@ -90,9 +94,9 @@ static void set_header(void)
 static int refused(void)
 {
     struct codeplug_edit_answer a = codeplug_edit(room, sizeof room, length, history, sizeof history, used, CODEPLUG_REMOVE_BANK, 9, 0,
-        NULL, 0);
+        NULL, 0, edition);
     print_refused("bank 9", a.number, a.place);
-    struct codeplug_edit_answer b = codeplug_undo(room, sizeof room, length, history, 2, used);
+    struct codeplug_edit_answer b = codeplug_undo(room, sizeof room, length, history, 2, used, edition);
     print_refused("history of 2 bytes", b.number, b.place);
     return a.length != length || a.used != used || a.entries != 0 || b.length != length || b.used != used || b.entries != 0;
 }
@@ -119,6 +123,6 @@ int main(void)
     if (refused())
         return printf("a refused call answers other lengths\n"), 1;
     for (int n = 0; n < 3; n++)
-        print_call("undo", codeplug_undo(room, sizeof room, length, history, sizeof history, used));
+        print_call("undo", codeplug_undo(room, sizeof room, length, history, sizeof history, used, edition));
     return 0;
 }

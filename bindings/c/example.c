@@ -15,6 +15,9 @@ static size_t length;
 static uint8_t history[CODEPLUG_FILE_MAX + 9]; /* enough for any one edit */
 static size_t used;
 
+/* One edition of M17 addresses throughout: here the older one. */
+static const uint32_t edition = CODEPLUG_EDITION_OLDER;
+
 static int refused(const char *what, unsigned number, size_t place)
 {
     if (number != CODEPLUG_OK)
@@ -29,7 +32,7 @@ static void print_text(const char *label, const uint8_t *field)
 
 static int print_counts(void)
 {
-    struct codeplug_validate_answer a = codeplug_validate(room, length);
+    struct codeplug_validate_answer a = codeplug_validate(room, length, edition);
     if (refused("validate", a.number, a.place))
         return 1;
     printf("%zu bytes: %u contacts, %u channels, %u banks\n", length, a.contacts, a.channels, a.banks);
@@ -39,7 +42,7 @@ static int print_counts(void)
 static int print_contact(size_t n)
 {
     uint8_t name[CODEPLUG_TEXT_SIZE], callsign[CODEPLUG_CALLSIGN_SIZE];
-    struct codeplug_contact_answer a = codeplug_contact(room, length, n, name, sizeof name);
+    struct codeplug_contact_answer a = codeplug_contact(room, length, n, name, sizeof name, edition);
     if (refused("contact", a.number, a.place))
         return 1;
     printf("contact %zu:", n);
@@ -48,7 +51,7 @@ static int print_contact(size_t n)
         printf(" DMR id %u\n", (unsigned)a.values.id);
         return 0;
     }
-    struct codeplug_decode_answer d = codeplug_decode_address(a.values.address, callsign, sizeof callsign);
+    struct codeplug_decode_answer d = codeplug_decode_address(a.values.address, callsign, sizeof callsign, edition);
     if (refused("address", d.number, d.place))
         return 1;
     printf(" M17 %.*s\n", d.broadcast ? 9 : (int)d.length, d.broadcast ? "broadcast" : (const char *)callsign);
@@ -58,7 +61,7 @@ static int print_contact(size_t n)
 static int print_channel(size_t n)
 {
     uint8_t texts[CODEPLUG_TEXTS_SIZE];
-    struct codeplug_channel_answer a = codeplug_channel(room, length, n, texts, sizeof texts);
+    struct codeplug_channel_answer a = codeplug_channel(room, length, n, texts, sizeof texts, edition);
     if (refused("channel", a.number, a.place))
         return 1;
     printf("channel %zu:", n);
@@ -85,7 +88,7 @@ static int taken(const char *what, struct codeplug_edit_answer a)
 static int set_tone(size_t n, uint16_t tenths)
 {
     uint8_t texts[CODEPLUG_TEXTS_SIZE], record[CODEPLUG_CHANNEL_SIZE];
-    struct codeplug_channel_answer a = codeplug_channel(room, length, n, texts, sizeof texts);
+    struct codeplug_channel_answer a = codeplug_channel(room, length, n, texts, sizeof texts, edition);
     if (refused("channel", a.number, a.place))
         return 1;
     a.info.transmit_tone = codeplug_tone_index(tenths);
@@ -96,26 +99,26 @@ static int set_tone(size_t n, uint16_t tenths)
     if (refused("write channel", w.number, w.place))
         return 1;
     return taken("tone changed", codeplug_edit(room, sizeof room, length, history, sizeof history, used, CODEPLUG_REPLACE_CHANNEL, n, 0,
-        record, sizeof record));
+        record, sizeof record, edition));
 }
 
 static int set_callsign(size_t n, const char *callsign)
 {
     uint8_t name[CODEPLUG_TEXT_SIZE], record[CODEPLUG_CONTACT_SIZE];
-    struct codeplug_contact_answer a = codeplug_contact(room, length, n, name, sizeof name);
+    struct codeplug_contact_answer a = codeplug_contact(room, length, n, name, sizeof name, edition);
     if (refused("contact", a.number, a.place))
         return 1;
-    struct codeplug_encode_answer e = codeplug_encode_callsign((const uint8_t *)callsign, strlen(callsign));
+    struct codeplug_encode_answer e = codeplug_encode_callsign((const uint8_t *)callsign, strlen(callsign), edition);
     if (refused("callsign", e.number, e.place))
         return 1;
     a.values.mode = CODEPLUG_M17;
     a.values.broadcast = false;
     a.values.address = e.address;
-    struct codeplug_refusal w = codeplug_write_contact(record, sizeof record, name, codeplug_text_length(name), a.values);
+    struct codeplug_refusal w = codeplug_write_contact(record, sizeof record, name, codeplug_text_length(name), a.values, edition);
     if (refused("write contact", w.number, w.place))
         return 1;
     return taken("contact changed", codeplug_edit(room, sizeof room, length, history, sizeof history, used, CODEPLUG_REPLACE_CONTACT, n, 0,
-        record, sizeof record));
+        record, sizeof record, edition));
 }
 
 static int print_bank(size_t n)
@@ -137,9 +140,9 @@ static int print_bank(size_t n)
 static size_t last_m17_contact(void)
 {
     uint8_t name[CODEPLUG_TEXT_SIZE];
-    size_t contacts = codeplug_validate(room, length).contacts;
+    size_t contacts = codeplug_validate(room, length, edition).contacts;
     for (size_t n = contacts; n-- > 0;)
-        if (codeplug_contact_prevalidated(room, length, n, name, sizeof name).values.mode == CODEPLUG_M17)
+        if (codeplug_contact_prevalidated(room, length, n, name, sizeof name, edition).values.mode == CODEPLUG_M17)
             return n;
     return contacts;
 }
@@ -147,14 +150,14 @@ static size_t last_m17_contact(void)
 static int edited(void)
 {
     size_t contact = last_m17_contact();
-    struct codeplug_edit_answer none = codeplug_undo(room, sizeof room, length, history, sizeof history, used);
+    struct codeplug_edit_answer none = codeplug_undo(room, sizeof room, length, history, sizeof history, used, edition);
     if (!refused("undo", none.number, none.place))
         return 1;
     if (print_contact(contact) || print_channel(0) || print_bank(0))
         return 1;
     if (set_tone(0, 1000) || set_callsign(contact, "AB2CD") || print_contact(contact))
         return 1;
-    if (taken("undone", codeplug_undo(room, sizeof room, length, history, sizeof history, used)))
+    if (taken("undone", codeplug_undo(room, sizeof room, length, history, sizeof history, used, edition)))
         return 1;
     return print_contact(contact) || print_channel(0) || print_counts();
 }

@@ -53,8 +53,8 @@ int main(int argc, char **argv)
     }
     if (!opened(argv[1]))
         return failed(argv[1]);
-    bool by_new = accepted("new reading", codeplug_validate(file, length));
-    bool by_legacy = accepted("legacy reading", codeplug_validate_legacy(file, length));
+    bool by_new = accepted("new reading", codeplug_validate(file, length, CODEPLUG_EDITION_OLDER));
+    bool by_legacy = accepted("legacy reading", codeplug_validate_legacy(file, length, CODEPLUG_EDITION_OLDER));
     if (by_new) {
         printf("%s: nothing to migrate\n", by_legacy ? "the same by both readings" : "not a legacy file");
         return 0;
@@ -63,8 +63,8 @@ int main(int argc, char **argv)
         printf("refused by both readings\n");
         return 1;
     }
-    accepted("a legacy file, migrated", codeplug_migrate(file, length));
+    accepted("a legacy file, migrated", codeplug_migrate(file, length, CODEPLUG_EDITION_OLDER));
     if (!saved(argv[2]) || !opened(argv[2]))
         return failed(argv[2]);
-    return accepted("new reading", codeplug_validate(file, length)) ? 0 : 1;
+    return accepted("new reading", codeplug_validate(file, length, CODEPLUG_EDITION_OLDER)) ? 0 : 1;
 }

@@ -19,7 +19,7 @@ static void print_call(const char *what, struct codeplug_edit_answer a, const ui
 
 static void validate(const char *what, const uint8_t *file, size_t length)
 {
-    struct codeplug_validate_answer a = codeplug_validate(file, length);
+    struct codeplug_validate_answer a = codeplug_validate(file, length, CODEPLUG_EDITION_OLDER);
     if (a.number == CODEPLUG_OK)
         printf("%s: ok\n", what);
     else
@@ -33,7 +33,7 @@ static void timestamp(const char *what, size_t history_size)
     memcpy(room, EMPTY, sizeof room);
     header[64] = 1;
     print_call(what, codeplug_edit(room, sizeof room, 88, history, history_size, 0, CODEPLUG_SET_HEADER, 0, 0, header,
-        sizeof header), history);
+        sizeof header, CODEPLUG_EDITION_OLDER), history);
 }
 
 /* Edit 7 on an empty file: a bank without a name. */
@@ -42,7 +42,7 @@ static void nameless_bank(void)
     uint8_t room[126] = {0}, history[16] = {0}, name[CODEPLUG_TEXT_SIZE] = {0};
     memcpy(room, EMPTY, sizeof EMPTY);
     print_call("nameless bank", codeplug_edit(room, sizeof room, 88, history, sizeof history, 0, CODEPLUG_INSERT_BANK, 0, 0, name,
-        sizeof name), history);
+        sizeof name, CODEPLUG_EDITION_OLDER), history);
 }
 
 int main(void)

@@ -1,5 +1,5 @@
-/* Reads every contact and channel of a codeplug and writes it again, by both readers: the bytes have to be the file's own. It shows that
- * the header's structures are laid out as the library's: records FILE. */
+/* Reads every contact and channel of a codeplug and writes it again, by both readers and by each edition that accepts the file: the bytes
+ * have to be the file's own. It shows that the header's structures are laid out as the library's: records FILE. */
 #include <stdio.h>
 #include <string.h>
 
@@ -12,20 +12,21 @@ _Static_assert(sizeof(struct codeplug_edit_answer) == 40, "edit answer");
 
 static uint8_t file[CODEPLUG_FILE_MAX];
 static size_t length;
+static uint32_t edition;
 
 static int contact(size_t n, const uint8_t *there)
 {
     uint8_t name[CODEPLUG_TEXT_SIZE], again[CODEPLUG_TEXT_SIZE], out[CODEPLUG_CONTACT_SIZE];
-    struct codeplug_contact_answer a = codeplug_contact(file, length, n, name, sizeof name);
-    struct codeplug_contact_answer b = codeplug_contact_prevalidated(file, length, n, again, sizeof again);
-    struct codeplug_refusal w = codeplug_write_contact(out, sizeof out, name, codeplug_text_length(name), b.values);
+    struct codeplug_contact_answer a = codeplug_contact(file, length, n, name, sizeof name, edition);
+    struct codeplug_contact_answer b = codeplug_contact_prevalidated(file, length, n, again, sizeof again, edition);
+    struct codeplug_refusal w = codeplug_write_contact(out, sizeof out, name, codeplug_text_length(name), b.values, edition);
     return a.number || b.number || w.number || memcmp(name, again, sizeof name) || memcmp(out, there, sizeof out);
 }
 
 static int channel(size_t n, const uint8_t *there)
 {
     uint8_t texts[CODEPLUG_TEXTS_SIZE], again[CODEPLUG_TEXTS_SIZE], out[CODEPLUG_CHANNEL_SIZE];
-    struct codeplug_channel_answer a = codeplug_channel(file, length, n, texts, sizeof texts);
+    struct codeplug_channel_answer a = codeplug_channel(file, length, n, texts, sizeof texts, edition);
     struct codeplug_channel_answer b = codeplug_channel_prevalidated(file, length, n, again, sizeof again);
     struct codeplug_refusal w = codeplug_write_channel(out, sizeof out, texts, codeplug_text_length(texts), again + CODEPLUG_TEXT_SIZE,
         codeplug_text_length(again + CODEPLUG_TEXT_SIZE), a.common, b.info);
@@ -38,12 +39,27 @@ static int short_buffers(void)
     uint8_t texts[CODEPLUG_TEXTS_SIZE - 1], kept[sizeof texts];
     memset(texts, 7, sizeof texts);
     memcpy(kept, texts, sizeof texts);
-    struct codeplug_header_answer h = codeplug_header(file, 0, texts, sizeof texts);
-    struct codeplug_channel_answer c = codeplug_channel(file, 0, 0, texts, sizeof texts);
+    struct codeplug_header_answer h = codeplug_header(file, 0, texts, sizeof texts, edition);
+    struct codeplug_channel_answer c = codeplug_channel(file, 0, 0, texts, sizeof texts, edition);
     struct codeplug_refusal w = codeplug_write_channel(texts, sizeof texts, file, 0, file, 0, c.common, c.info);
-    return h.number != CODEPLUG_REFUSED_SHORT_BUFFER || c.number != CODEPLUG_REFUSED_SHORT_BUFFER
+    if (h.number != CODEPLUG_REFUSED_SHORT_BUFFER || c.number != CODEPLUG_REFUSED_SHORT_BUFFER
         || w.number != CODEPLUG_REFUSED_SHORT_BUFFER || c.info.contact != CODEPLUG_NOBODY || !c.common.receive_only
-        || memcmp(texts, kept, sizeof texts);
+        || memcmp(texts, kept, sizeof texts))
+        return printf("a short buffer was taken\n"), 1;
+    return 0;
+}
+
+/* Whether a record of an accepted file is not the same; of a refused one there is none. */
+static int others(struct codeplug_validate_answer a)
+{
+    const uint8_t *at = file + CODEPLUG_HEADER_SIZE;
+    for (size_t n = 0; n < a.contacts; n++, at += CODEPLUG_CONTACT_SIZE)
+        if (contact(n, at))
+            return printf("contact %zu is not the same\n", n), 1;
+    for (size_t n = 0; n < a.channels; n++, at += CODEPLUG_CHANNEL_SIZE)
+        if (channel(n, at))
+            return printf("channel %zu is not the same\n", n), 1;
+    return 0;
 }
 
 int main(int argc, char **argv)
@@ -55,16 +71,14 @@ int main(int argc, char **argv)
     }
     length = fread(file, 1, sizeof file, in);
     fclose(in);
-    struct codeplug_validate_answer a = codeplug_validate(file, length);
-    const uint8_t *at = file + CODEPLUG_HEADER_SIZE;
-    for (size_t n = 0; n < a.contacts; n++, at += CODEPLUG_CONTACT_SIZE)
-        if (contact(n, at))
-            return printf("contact %zu is not the same\n", n), 1;
-    for (size_t n = 0; n < a.channels; n++, at += CODEPLUG_CHANNEL_SIZE)
-        if (channel(n, at))
-            return printf("channel %zu is not the same\n", n), 1;
-    if (short_buffers())
-        return printf("a short buffer was taken\n"), 1;
-    printf("%u contacts and %u channels, each the same\n", a.contacts, a.channels);
+    edition = CODEPLUG_EDITION_OLDER;
+    struct codeplug_validate_answer older = codeplug_validate(file, length, edition);
+    if (others(older) || short_buffers())
+        return 1;
+    edition = CODEPLUG_EDITION_NEWER;
+    struct codeplug_validate_answer newer = codeplug_validate(file, length, edition);
+    if (others(newer) || short_buffers())
+        return 1;
+    printf("%u contacts and %u channels, each the same%s\n", newer.contacts, newer.channels, older.number ? ", by the newer edition" : "");
     return 0;
 }

@@ -1,12 +1,12 @@
-"""The sizes, kinds of edits, structures and functions of bindings/c/include/codeplug.h, under its names; the functions are those of
-build/libcodeplug.so.MAJOR, by the major version."""
+"""The sizes, kinds of edits, editions, structures and functions of bindings/c/include/codeplug.h, under its names; the functions are those
+of build/libcodeplug.so.MAJOR, by the major version."""
 import ctypes
 import enum
 import pathlib
 from ctypes import c_bool, c_char_p, c_int8, c_size_t, c_uint8, c_uint16, c_uint32, c_uint64
 
 # The header's version. A library of another major version is not loaded.
-__version__ = "2.0.0"
+__version__ = "3.0.0"
 
 FILE_MAX = 1048576
 HEADER_SIZE = 88
@@ -32,6 +32,14 @@ class EditKind(enum.IntEnum):
     INSERT_ENTRY = 10
     REMOVE_ENTRY = 11
     SET_HEADER = 12
+
+
+class Edition(enum.IntEnum):
+    """An edition of M17 addresses (document 02, [10]). By both of them 1 to 262,143,999,999,999 are callsigns of 1 to 9 characters. By the
+    newer one 262,144,000,000,000 to 268,697,599,999,999 are hash addresses: a hash sign and then the text, of at most eight characters, of
+    the number less 262,144,000,000,000. One edition is used throughout with a codeplug and its history."""
+    OLDER = 0
+    NEWER = 1
 
 
 class ContactValues(ctypes.Structure):
@@ -111,32 +119,33 @@ STRUCTURES = {
 BYTES = [c_char_p, c_size_t]
 RECORD = BYTES + [c_size_t] + BYTES
 BUFFERS = 2 * (BYTES + [c_size_t])
+EDITION = [c_uint32]
 
 # Each function's answer and arguments.
 FUNCTIONS = {
     "codeplug_version": (c_uint32, []),
-    "codeplug_validate": (ValidateAnswer, BYTES),
-    "codeplug_header": (HeaderAnswer, BYTES + BYTES),
-    "codeplug_contact": (ContactAnswer, RECORD),
-    "codeplug_channel": (ChannelAnswer, RECORD),
-    "codeplug_bank": (BankAnswer, RECORD),
-    "codeplug_bank_entry": (BankEntryAnswer, BYTES + [c_size_t, c_size_t]),
-    "codeplug_contact_prevalidated": (ContactAnswer, RECORD),
+    "codeplug_validate": (ValidateAnswer, BYTES + EDITION),
+    "codeplug_header": (HeaderAnswer, BYTES + BYTES + EDITION),
+    "codeplug_contact": (ContactAnswer, RECORD + EDITION),
+    "codeplug_channel": (ChannelAnswer, RECORD + EDITION),
+    "codeplug_bank": (BankAnswer, RECORD + EDITION),
+    "codeplug_bank_entry": (BankEntryAnswer, BYTES + [c_size_t, c_size_t] + EDITION),
+    "codeplug_contact_prevalidated": (ContactAnswer, RECORD + EDITION),
     "codeplug_channel_prevalidated": (ChannelAnswer, RECORD),
     "codeplug_bank_prevalidated": (BankAnswer, RECORD),
     "codeplug_bank_entry_prevalidated": (BankEntryAnswer, BYTES + [c_size_t, c_size_t]),
-    "codeplug_validate_legacy": (ValidateAnswer, BYTES),
-    "codeplug_migrate": (ValidateAnswer, BYTES),
-    "codeplug_write_contact": (Refusal, BYTES + BYTES + [ContactValues]),
+    "codeplug_validate_legacy": (ValidateAnswer, BYTES + EDITION),
+    "codeplug_migrate": (ValidateAnswer, BYTES + EDITION),
+    "codeplug_write_contact": (Refusal, BYTES + BYTES + [ContactValues] + EDITION),
     "codeplug_write_channel": (Refusal, BYTES + BYTES + BYTES + [ChannelCommon, ChannelInfo]),
     "codeplug_write_text": (Refusal, BYTES + BYTES),
     "codeplug_write_empty": (Refusal, BYTES),
-    "codeplug_encode_callsign": (EncodeAnswer, BYTES),
-    "codeplug_decode_address": (DecodeAnswer, [c_uint64] + BYTES),
+    "codeplug_encode_callsign": (EncodeAnswer, BYTES + EDITION),
+    "codeplug_decode_address": (DecodeAnswer, [c_uint64] + BYTES + EDITION),
     "codeplug_tone_frequency": (c_uint16, [c_uint8]),
     "codeplug_tone_index": (c_uint8, [c_uint16]),
-    "codeplug_edit": (EditAnswer, BUFFERS + [c_size_t, c_size_t, c_size_t] + BYTES),
-    "codeplug_undo": (EditAnswer, BUFFERS),
+    "codeplug_edit": (EditAnswer, BUFFERS + [c_size_t, c_size_t, c_size_t] + BYTES + EDITION),
+    "codeplug_undo": (EditAnswer, BUFFERS + EDITION),
     "codeplug_history_entries": (HistoryAnswer, BYTES),
 }
 

@@ -1,8 +1,8 @@
 """Contacts, channels and texts, written and read by the library. A blank is None: a channel that calls nobody, a tone that is off."""
 from dataclasses import asdict, dataclass
 
-from codeplug_c import (CALLSIGN_SIZE, CHANNEL_SIZE, CONTACT_SIZE, TEXT_SIZE, ChannelCommon, ChannelInfo, ContactValues, buffer, c_uint64,
-                        filled, fit, library)
+from codeplug_c import (CALLSIGN_SIZE, CHANNEL_SIZE, CONTACT_SIZE, TEXT_SIZE, ChannelCommon, ChannelInfo, ContactValues, Edition, buffer,
+                        c_uint64, filled, fit, library)
 from codeplug_refused import accepted
 
 BROADCAST = 0xFFFFFFFFFFFF
@@ -18,7 +18,7 @@ class DmrContact:
 
 @dataclass(slots=True)
 class M17Contact:
-    address: int  # a callsign's number, 1 to 262,143,999,999,999, or BROADCAST
+    address: int  # a callsign's number, 1 to 262,143,999,999,999, by the newer edition to 268,697,599,999,999; or BROADCAST
 
 
 @dataclass(slots=True)
@@ -106,7 +106,7 @@ def contact_of(name, values):
     return Contact(text_of(name), M17Contact(BROADCAST if values.broadcast else values.address))
 
 
-def write_contact(contact):
+def write_contact(contact, *, edition=Edition.OLDER):
     """A contact's record. Refusals: 5 at 0, 8 at 33 or 7 at 37."""
     name, info, out = bytes_of(contact.name), contact.info, buffer(CONTACT_SIZE)
     if isinstance(info, DmrContact):
@@ -115,7 +115,7 @@ def write_contact(contact):
         values = filled(ContactValues, mode=2, broadcast=True)
     else:
         values = filled(ContactValues, mode=2, address=info.address)
-    accepted(library.codeplug_write_contact(out, len(out), name, len(name), values))
+    accepted(library.codeplug_write_contact(out, len(out), name, len(name), values, Edition(edition)))
     return out.raw
 
 
@@ -157,14 +157,16 @@ def write_channel(channel):
     return out.raw
 
 
-def encode_callsign(text):
-    """A callsign's number. Refusals: 20, 21, 22."""
+def encode_callsign(text, *, edition=Edition.OLDER):
+    """A callsign's number. Refusals: 20, 21, 22. A hash sign counts as a character; by the newer edition it is refused, 21, where it does
+    not stand first, by the older one wherever it stands."""
     raw = bytes_of(text)
-    return accepted(library.codeplug_encode_callsign(raw, len(raw))).address
+    return accepted(library.codeplug_encode_callsign(raw, len(raw), Edition(edition))).address
 
 
-def decode_address(number):
+def decode_address(number, *, edition=Edition.OLDER):
     """A number's callsign, None where it is BROADCAST. Refusal: 23."""
     out = buffer(CALLSIGN_SIZE)
-    answer = accepted(library.codeplug_decode_address(fit(c_uint64, number, "an address"), out, len(out)))
+    number = fit(c_uint64, number, "an address")
+    answer = accepted(library.codeplug_decode_address(number, out, len(out), Edition(edition)))
     return None if answer.broadcast else text_of(out.raw)

@@ -13,9 +13,9 @@ from dataclasses import replace
 
 import codeplug_c
 from codeplug import (BROADCAST, FILE_MAX, HEADER_SIZE, TEXT_SIZE, Bank, Channel, Codeplug, Contact, Counts, DmrContact, DmrInfo,
-                      EditAnswer, EditKind, FmInfo, Header, M17Contact, M17Info, Refused, __version__, decode_address, encode_callsign,
-                      history_entries, migrate, tone_frequency, tone_index, validate, validate_legacy, version, write_channel,
-                      write_contact, write_empty, write_text)
+                      EditAnswer, EditKind, Edition, FmInfo, Header, M17Contact, M17Info, Refused, __version__, decode_address,
+                      encode_callsign, history_entries, migrate, tone_frequency, tone_index, validate, validate_legacy, version,
+                      write_channel, write_contact, write_empty, write_text)
 from codeplug_refused import TEXTS, accepted
 
 ROOT = pathlib.Path(__file__).resolve().parents[2]
@@ -48,9 +48,9 @@ def m17_channel(contact):
 
 
 class Case(unittest.TestCase):
-    def refused(self, number, place, call, *arguments):
+    def refused(self, number, place, call, *arguments, **keywords):
         with self.assertRaises(Refused) as caught:
-            call(*arguments)
+            call(*arguments, **keywords)
         self.assertEqual((caught.exception.number, caught.exception.place), (number, place))
 
 
@@ -112,6 +112,9 @@ class AsInC(Case):
     def test_kinds_of_edits_are_those_of_the_header(self):
         self.assertEqual({kind.name: kind.value for kind in EditKind}, self.enum("edit_kind"))
         self.assertEqual(len(EditKind), 12)
+
+    def test_editions_are_those_of_the_header(self):
+        self.assertEqual({f"EDITION_{edition.name}": edition.value for edition in Edition}, self.enum("edition"))
 
     def test_a_library_of_another_major_version_is_not_loaded(self):
         major = int(__version__.split(".")[0])
@@ -602,6 +605,131 @@ class Legacy(Case):
         codeplug.undo()
         right = migrate(self.club_with(198, [2]))
         self.assertEqual((codeplug.bytes()[203], right[203], validate(right)), (5, 0x60, self.COUNTS))
+
+
+OLDER, NEWER = {"edition": Edition.OLDER}, {"edition": Edition.NEWER}
+
+
+class Editions(Case):
+    """Both editions of M17 addresses (document 02, [10]), of addresses, files, edits and undo."""
+    HASH, LAST = 40**9, 40**9 + 40**8 - 1  # the hash sign alone, and the last hash address
+    PLACE = 199  # the first hash address of the sample
+    COUNTS = Counts(7, 6, 2)
+
+    def m17(self, callsign):
+        return Contact("Crew", M17Contact(encode_callsign(callsign, **NEWER)))
+
+    def test_borders_by_number(self):
+        for number, text in (self.HASH, "#"), (self.HASH + 1, "#A"), (self.HASH + 40, "# A"), (self.LAST, "#........"):
+            self.refused(23, 0, decode_address, number)
+            self.assertEqual((decode_address(number, **NEWER), encode_callsign(text, **NEWER)), (text, number))
+            self.refused(21, 0, encode_callsign, text)
+        for edition in OLDER, NEWER:
+            self.assertEqual((decode_address(1, **edition), decode_address(self.HASH - 1, **edition)), ("A", "........."))
+            self.assertIsNone(decode_address(BROADCAST, **edition))
+            for number in 0, self.LAST + 1, BROADCAST - 1, BROADCAST + 1, 2**64 - 1:
+                self.refused(23, 0, decode_address, number, **edition)
+
+    def test_texts(self):
+        self.assertEqual(encode_callsign("#AB1CD", **NEWER), self.HASH + 10476881)
+        for text, older, newer in (("# ", (21, 0), (22, 0)), ("#A ", (21, 0), (22, 0)), ("##", (21, 0), (21, 1)), ("#A#", (21, 0), (21, 2)),
+                                   ("#a", (21, 0), (21, 1)), ("A#", (21, 1), (21, 1)), (" #", (21, 1), (21, 1)), ("", (20, 0), (20, 0)),
+                                   ("#" + 9 * ".", (20, 0), (20, 0)), ("A ", (22, 0), (22, 0))):
+            self.refused(*older, encode_callsign, text)
+            self.refused(*older, encode_callsign, text, **OLDER)
+            self.refused(*newer, encode_callsign, text, **NEWER)
+
+    def test_alike_where_both_accept(self):
+        """A number that is good by both editions has one text, and that text one number."""
+        for number in [1 + 131072000001 * n for n in range(2000)] + list(range(1, 100)) + list(range(self.HASH - 100, self.HASH)):
+            text = decode_address(number, **OLDER)
+            self.assertEqual(decode_address(number, **NEWER), text)
+            self.assertEqual((encode_callsign(text, **OLDER), encode_callsign(text, **NEWER)), (number, number))
+
+    def test_numbers_that_are_no_edition(self):
+        """The library takes any for the older edition, this module only those of Edition."""
+        file, library = sample("hash"), codeplug_c.library
+        answers = {n: library.codeplug_validate(file, len(file), n).number for n in (0, 1, 2, 3, 256, 257, 2**31 + 1, 2**32 - 1)}
+        self.assertEqual({n for n, number in answers.items() if number == 0}, {1})
+        self.assertEqual({number for n, number in answers.items() if n != 1}, {8})
+        for bad in 2, -1, 2**32 + 1, "newer", None:
+            for call in ((validate, file), (validate_legacy, file), (migrate, file), (encode_callsign, "A"), (decode_address, 1),
+                         (write_contact, dmr()), (Codeplug, file), (Codeplug.empty,), (Codeplug.restore, file, b"")):
+                self.assertRaises(ValueError, *call, edition=bad)
+        self.assertEqual(validate(file, edition=1), self.COUNTS)
+        self.assertRaises(TypeError, validate, file, Edition.NEWER)
+
+    def test_written_contacts(self):
+        for number in self.HASH, self.HASH + 1, self.LAST:
+            contact = Contact("", M17Contact(number))
+            self.refused(8, 33, write_contact, contact)
+            self.assertEqual(write_contact(contact, **NEWER)[33:], number.to_bytes(6, "big"))
+        for edition in OLDER, NEWER:
+            for bad in 0, self.LAST + 1, BROADCAST - 1, 2**64 - 1:
+                self.refused(8, 33, write_contact, Contact("", M17Contact(bad)), **edition)
+            for good in 1, self.HASH - 1, BROADCAST:
+                self.assertEqual(write_contact(Contact("", M17Contact(good)), **edition)[33:], good.to_bytes(6, "big"))
+
+    def test_the_sample_by_both(self):
+        file = sample("hash")
+        for call in validate, Codeplug, validate_legacy, migrate:
+            self.refused(8, self.PLACE, call, file)
+        self.refused(8, self.PLACE, Codeplug.restore, file, b"")
+        self.assertEqual(validate(file, **NEWER), self.COUNTS)
+        codeplug = Codeplug(file, **NEWER)
+        self.assertEqual((codeplug.edition(), club().edition()), (Edition.NEWER, Edition.OLDER))
+        callsigns = [decode_address(codeplug.contact(n).info.address, **NEWER) for n in range(6)]
+        self.assertEqual(callsigns, [None, "AB1CD", "#CREW", "# 2", "#", "#........"])
+        self.assertEqual((codeplug.counts(), codeplug.channel(1).info.contact, codeplug.entries(1)), (self.COUNTS, 2, [5, 4]))
+        for n in range(7):
+            self.assertEqual(write_contact(codeplug.contact(n), **NEWER), file[contact_at(n):contact_at(n + 1)])
+
+    def test_every_sample_by_both(self):
+        """A file that the older edition accepts the newer accepts and reads alike."""
+        for name in "club", "dealer", "hire", "empty":
+            older, newer = Codeplug(sample(name)), Codeplug(sample(name), **NEWER)
+            counts = older.counts()
+            self.assertEqual(older.header(), newer.header())
+            for read, count in (Codeplug.contact, counts.contacts), (Codeplug.channel, counts.channels), (Codeplug.entries, counts.banks):
+                self.assertEqual([read(older, n) for n in range(count)], [read(newer, n) for n in range(count)])
+
+    def test_edited(self):
+        older = club()
+        self.refused(8, 33, older.insert_contact, 0, self.m17("#AB1"))
+        self.refused(8, 33, older.replace_contact, 5, self.m17("#AB1"))
+        self.assertEqual((older.bytes(), older.undoable()), (sample("club"), 0))
+        newer = Codeplug(sample("club"), 1000, 10000, **NEWER)
+        newer.insert_contact(0, self.m17("#AB1"))
+        newer.replace_contact(6, self.m17("#"))
+        self.assertEqual((newer.contact(0), newer.contact(6)), (self.m17("#AB1"), self.m17("#")))
+        self.refused(8, 88 + 33, Codeplug.restore, newer.bytes(), newer.history())
+        again = Codeplug.restore(newer.bytes(), newer.history(), **NEWER)
+        self.assertEqual((again.undo().entries, again.undo().entries, again.bytes()), (1, 0, sample("club")))
+        self.refused(38, 0, again.undo)
+
+    def test_undone_by_the_other_edition(self):
+        """What undo would bring back the older edition may refuse; the newer takes over whatever the older left."""
+        newer = Codeplug.empty(1000, 1000, **NEWER)
+        newer.insert_contact(0, self.m17("#AB1"))
+        newer.remove_contact(0)
+        older = Codeplug.restore(newer.bytes(), newer.history())
+        self.refused(39, 0, older.undo)
+        self.assertEqual((older.bytes(), older.history(), older.undoable()), (newer.bytes(), newer.history(), 2))
+        newer.undo()
+        self.assertEqual(newer.contact(0), self.m17("#AB1"))
+        older = club()
+        older.rename_bank(0, "Daily")
+        newer = Codeplug.restore(older.bytes(), older.history(), **NEWER)
+        self.assertEqual((newer.undo().entries, newer.bytes()), (0, sample("club")))
+
+    def test_legacy_files(self):
+        """A hash address stays, and the edition decides over it."""
+        at, raw = contact_at(5) + 33, (self.HASH + 1).to_bytes(6, "big")
+        legacy, expected = (file[:at] + raw + file[at + 6:] for file in (sample("club-legacy"), sample("club")))
+        self.refused(8, at, validate_legacy, legacy)
+        self.refused(8, at, migrate, legacy)
+        self.assertEqual((validate_legacy(legacy, **NEWER), migrate(legacy, **NEWER)), (validate(sample("club")), expected))
+        self.assertEqual(Codeplug(expected, **NEWER).contact(5), Contact("Secretary", M17Contact(self.HASH + 1)))
 
 
 if __name__ == "__main__":

@@ -1,9 +1,11 @@
 //! The verbs of tones and M17 addresses.
 use crate::args::{whole, Args};
+use crate::edition;
 use crate::fail::{usage, Done, Fail};
 use crate::out::{say, Out};
+use crate::reading::{address_help, callsign_help};
 use crate::values;
-use codeplug::{decode_address, encode_callsign, tone_frequency, tone_index, Refused};
+use codeplug::{decode_address, encode_callsign, tone_frequency, tone_index, Edition, Refused};
 
 pub fn tone(mut args: Args, out: &mut Out) -> Done {
     let index = args.value("index");
@@ -53,31 +55,37 @@ fn none(text: &str) -> Fail {
 }
 
 pub fn callsign(mut args: Args, out: &mut Out) -> Done {
-    let hex = args.flag("hex");
+    let (hex, edition) = (args.flag("hex"), edition::of(&mut args)?);
     let text = args.next_text_or_empty("TEXT")?;
     args.end("callsign")?;
     let text = &text[..];
-    let number = encode_callsign(text).map_err(|refused| {
-        let words = callsign_words(text, refused);
+    let number = encode_callsign(text, edition).map_err(|refused| {
+        let words = callsign_words(text, refused, edition);
         Fail::Refused { about: format!("'{text}'"), refused, words }
     })?;
     let bytes: Vec<String> = number.to_be_bytes()[2..].iter().map(|byte| format!("{byte:02X}")).collect();
     out.line(&if hex { bytes.join(" ") } else { number.to_string() })
 }
 
-pub fn callsign_words(text: &str, refused: Refused) -> String {
+pub fn callsign_words(text: &str, refused: Refused, edition: Edition) -> String {
     let foreign = text.get(refused.place..).and_then(|rest| rest.chars().next());
     match (refused.number, foreign) {
-        (21, Some(c)) => format!("{c:?} is no character of a callsign: A to Z, 0 to 9, space, - / ."),
+        (21, Some('#')) if edition == Edition::Newer => "'#' stands at the beginning of a hash address, and nowhere else".into(),
+        (21, Some(c)) => format!("{c:?} is no character of a callsign (A to Z, 0 to 9, space, - / .){}", callsign_help(text, refused)),
+        (20, _) if text.starts_with('#') => format!("a callsign has 1 to 9 characters, its hash sign counted, and this {} bytes", text.len()),
         (20, _) => format!("a callsign has 1 to 9 characters, and this {} bytes", text.len()),
         _ => refused.text().into(),
     }
 }
 
 pub fn address(mut args: Args, out: &mut Out) -> Done {
+    let edition = edition::of(&mut args)?;
     let text = args.next_text("NUMBER")?;
     args.end("address")?;
     let number = values::address(&text).or_else(usage)?;
-    let refused = |refused: Refused| Fail::Refused { about: text.clone(), refused, words: refused.text().into() };
-    out.line(&decode_address(number).map_err(refused)?.unwrap_or("broadcast".into()))
+    let found = decode_address(number, edition).map_err(|refused| {
+        let words = format!("{}{}", refused.text(), address_help(number, edition));
+        Fail::Refused { about: text, refused, words }
+    })?;
+    out.line(&found.unwrap_or("broadcast".into()))
 }

@@ -2,21 +2,23 @@
 use crate::align::{align, common, Aligned};
 use crate::args::Args;
 use crate::cell::{json_string, Cell};
+use crate::edition;
 use crate::explain::label;
 use crate::fail::{usage, Done};
-use crate::fields::{shown_contact, Field, CHANNEL, CONTACT, HEADER};
+use crate::fields::{shown_contact, Context, Field, CHANNEL, CONTACT, HEADER};
 use crate::out::{Out, Paint};
 use crate::records::Records;
 use crate::show::open;
-use codeplug::{write_channel, write_contact, Channel, Contact, Info};
+use codeplug::{write_channel, write_contact, Channel, Info};
 
 pub fn diff(mut args: Args, out: &mut Out) -> Done {
+    let edition = edition::of(&mut args)?;
     let (a, b) = (args.next("A")?, args.next("B")?);
     args.end("diff")?;
     if a == "-" && b == "-" {
         return usage("only one of A and B can be standard input");
     }
-    let (a, b) = (open(&a)?, open(&b)?);
+    let (a, b) = (open(&a, edition)?, open(&b, edition)?);
     print(&changes(&a, &b), "", out)
 }
 
@@ -37,7 +39,7 @@ pub fn print(changes: &[String], indent: &str, out: &mut Out) -> Done {
 pub fn changes(a: &Records, b: &Records) -> Vec<String> {
     let contacts = align_contacts(a, b);
     let channels = align_channels(a, b, &contacts);
-    let mut lines = fields_changed(HEADER, (&a.header, &[]), (&b.header, &[]), "header");
+    let mut lines = fields_changed(HEADER, (&a.header, a.context()), (&b.header, b.context()), "header");
     lines.extend(contact_lines(a, b, &contacts));
     lines.extend(channel_lines(a, b, &contacts, &channels));
     lines.extend(bank_lines(a, b, &channels));
@@ -71,27 +73,29 @@ fn lines_of(part: &str, aligned: &Aligned, a: Side, b: Side, changed: impl Fn(us
 
 fn contact_lines(a: &Records, b: &Records, aligned: &Aligned) -> Vec<String> {
     fn side(records: &Records) -> Side<'_> {
-        let whole = |n: usize| whole_record(CONTACT, &records.contacts[n], &[]);
+        let whole = |n: usize| whole_record(CONTACT, (&records.contacts[n], records.context()));
         Side { names: records.names("contact"), whole: Box::new(whole) }
     }
     let changed = |i: usize, j: usize| {
         let whose = label("contact", i, &a.contacts[i].name);
-        fields_changed(CONTACT, (&a.contacts[i], &[]), (&b.contacts[j], &[]), &whose)
+        fields_changed(CONTACT, (&a.contacts[i], a.context()), (&b.contacts[j], b.context()), &whose)
     };
     lines_of("contact", aligned, side(a), side(b), changed)
 }
 
 fn channel_lines(a: &Records, b: &Records, contacts: &Aligned, aligned: &Aligned) -> Vec<String> {
     fn side(records: &Records) -> Side<'_> {
-        let whole = |n: usize| whole_record(CHANNEL, &records.channels[n], &records.contacts);
+        let whole = |n: usize| whole_record(CHANNEL, (&records.channels[n], records.context()));
         Side { names: records.names("channel"), whole: Box::new(whole) }
     }
     lines_of("channel", aligned, side(a), side(b), |i, j| channel_changed(a, b, (i, j), contacts))
 }
 
 fn align_contacts(a: &Records, b: &Records) -> Aligned {
-    let key = |contact: &Contact| write_contact(contact).ok();
-    let keys = |records: &Records| records.contacts.iter().map(key).collect::<Vec<_>>();
+    let keys = |records: &Records| {
+        let contacts = records.contacts.iter();
+        contacts.map(|contact| write_contact(contact, records.edition).ok()).collect::<Vec<_>>()
+    };
     align(&keys(a), &keys(b), (&a.names("contact"), &b.names("contact")))
 }
 
@@ -119,8 +123,8 @@ fn align_channels(a: &Records, b: &Records, contacts: &Aligned) -> Aligned {
 }
 
 /// A record's fields in one line, but for its name.
-fn whole_record<R>(fields: &[Field<R>], record: &R, contacts: &[Contact]) -> String {
-    let words = fields.iter().filter(|field| field.is_listed()).filter_map(|field| match (field.get)(record, contacts) {
+fn whole_record<R>(fields: &[Field<R>], (record, context): In<R>) -> String {
+    let words = fields.iter().filter(|field| field.is_listed()).filter_map(|field| match (field.get)(record, context) {
         Cell::Absent => None,
         Cell::Text(text) if text.is_empty() => None,
         cell => Some(format!("{} {}", field.words(), cell.whole_text())),
@@ -128,8 +132,8 @@ fn whole_record<R>(fields: &[Field<R>], record: &R, contacts: &[Contact]) -> Str
     words.collect::<Vec<_>>().join(", ")
 }
 
-/// A record, and the contacts of its codeplug.
-type In<'a, R> = (&'a R, &'a [Contact]);
+/// A record, and its codeplug.
+type In<'a, R> = (&'a R, Context<'a>);
 
 /// A line for each field that differs.
 fn fields_changed<R>(fields: &[Field<R>], a: In<R>, b: In<R>, whose: &str) -> Vec<String> {
@@ -143,7 +147,7 @@ fn fields_changed<R>(fields: &[Field<R>], a: In<R>, b: In<R>, whose: &str) -> Ve
 /// A channel that calls the same contact has not changed, whatever the contact's number or name.
 fn channel_changed(a: &Records, b: &Records, (i, j): (usize, usize), contacts: &Aligned) -> Vec<String> {
     let whose = label("channel", i, &a.channels[i].name);
-    let mut lines = fields_changed(CHANNEL, (&a.channels[i], &[]), (&b.channels[j], &[]), &whose);
+    let mut lines = fields_changed(CHANNEL, (&a.channels[i], a.context()), (&b.channels[j], b.context()), &whose);
     lines.extend(contact_changed(a, b, (i, j), contacts).map(|change| format!("~ {whose}: contact: {change}")));
     lines
 }

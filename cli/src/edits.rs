@@ -1,7 +1,8 @@
 //! The twelve edits, and a refused one in words.
 use crate::explain::{label, other_mode};
 use crate::layout;
-use codeplug::{Channel, Codeplug, Contact, ContactInfo, EditAnswer, Info, Refused};
+use crate::reading::address_help;
+use codeplug::{Address, Channel, Codeplug, Contact, ContactInfo, EditAnswer, Edition, Info, Refused};
 
 /// There is no such place.
 const NO_PLACE: Refused = Refused { number: 33, place: 0 };
@@ -113,8 +114,26 @@ impl Edit {
             Edit::InsertBank(_, name) | Edit::RenameBank(_, name) => ("name", name),
             _ => return refused.text().into(),
         };
-        let fault = if refused.number == 5 { bad_text(text) } else { rule(field).to_string() };
+        let fault = match refused.number {
+            5 => bad_text(text),
+            8 => self.bad_address(codeplug.edition()),
+            _ => rule(field).to_string(),
+        };
         format!("{}, {field}: {fault}", self.written(codeplug))
+    }
+
+    fn bad_address(&self, edition: Edition) -> String {
+        let rule = match edition {
+            Edition::Older => "has to be that of a callsign, 1 to 262143999999999",
+            Edition::Newer => "has to be that of a callsign or a hash address, 1 to 268697599999999",
+        };
+        match self {
+            Edit::InsertContact(_, Contact { info: ContactInfo::M17(Address::Callsign(number)), .. })
+            | Edit::ReplaceContact(_, Contact { info: ContactInfo::M17(Address::Callsign(number)), .. }) => {
+                format!("{rule}, and is {number}{}", address_help(*number, edition))
+            }
+            _ => rule.into(),
+        }
     }
 
     fn bad_contact(&self, refused: Refused, codeplug: &Codeplug) -> String {
@@ -227,7 +246,6 @@ fn rule(field: &str) -> &'static str {
         "latitude's ten-thousandths" => "has to be at most 90 degrees",
         "receive colour" | "transmit colour" | "receive access" | "transmit access" => "has to be 0 to 15",
         "slot" => "has to be 1 or 2",
-        "address" => "has to be that of a callsign, 1 to 262143999999999",
         _ => "is outside its rule",
     }
 }

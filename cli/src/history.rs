@@ -12,7 +12,7 @@
 //! Every state of the codeplug is there by its digest, so a history tells which of its states a file is in, if any: what is newer does not
 //! count. So both files need not be replaced at one moment.
 use crate::sha256::{from_hex, hex, sha256, Digest};
-use codeplug::{history_entries, Codeplug, FILE_MAX};
+use codeplug::{history_entries, Codeplug, Edition, FILE_MAX};
 
 /// The size of a new history, in bytes.
 const DEFAULT_SIZE: usize = 16 << 20;
@@ -90,10 +90,12 @@ impl History {
         Some(self)
     }
 
-    /// Undoes the nth command from the newest, in the file as it was after it. None where that does not give the state that is known here.
-    pub fn take_back(&self, mut file: Vec<u8>, n: usize) -> Option<Vec<u8>> {
+    /// Undoes the nth command from the newest, in the file as it was after it. None where that does not give the state that is known here, or
+    /// the edition refuses that.
+    pub fn take_back(&self, file: &[u8], n: usize, edition: Edition) -> Option<Vec<u8>> {
+        let mut file = file.to_vec();
         for batch in &self.commands[n].batches {
-            let mut codeplug = Codeplug::restore(&file, &batch.bytes, FILE_MAX, 0).ok()?;
+            let mut codeplug = Codeplug::restore(&file, &batch.bytes, FILE_MAX, 0, edition).ok()?;
             (0..batch.entries).all(|_| codeplug.undo().is_ok()).then_some(())?;
             file = codeplug.bytes().to_vec();
         }

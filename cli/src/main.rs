@@ -7,6 +7,7 @@ mod check;
 mod convert;
 mod diff;
 mod disk;
+mod edition;
 mod edits;
 mod explain;
 mod fail;
@@ -115,6 +116,10 @@ fn options(verb: &str) -> (Vec<&'static str>, Vec<&'static str>) {
     if matches!(verb, "set" | "add" | "remove" | "rename" | "move" | "undo") {
         values.extend(session::VALUES);
         flags.extend(session::FLAGS);
+    }
+    // All but these read or write codeplugs or addresses.
+    if !matches!(verb, "tone" | "help") {
+        values.push(edition::OPTION);
     }
     flags.extend(["help", "version"]);
     (values, flags)

@@ -1,6 +1,7 @@
 //! A codeplug's records, read at once.
 use crate::explain::label;
-use codeplug::{prevalidated, Channel, Contact, Header, Refused};
+use crate::fields::Context;
+use codeplug::{prevalidated, Channel, Contact, Edition, Header, Refused};
 
 pub struct Bank {
     pub name: String,
@@ -8,6 +9,8 @@ pub struct Bank {
 }
 
 pub struct Records {
+    /// By which they were read.
+    pub edition: Edition,
     pub header: Header,
     pub contacts: Vec<Contact>,
     pub channels: Vec<Channel>,
@@ -16,16 +19,21 @@ pub struct Records {
 
 impl Records {
     /// Validates the file once. Refusals: the file's.
-    pub fn of(file: &[u8]) -> Result<Records, Refused> {
-        let header = codeplug::header(file)?;
+    pub fn of(file: &[u8], edition: Edition) -> Result<Records, Refused> {
+        let header = codeplug::header(file, edition)?;
         let counts = header.counts;
         let bank = |n| Ok(Bank { name: prevalidated::bank(file, n)?.name, entries: prevalidated::entries(file, n)? });
         Ok(Records {
+            edition,
             header,
-            contacts: (0..counts.contacts.into()).map(|n| prevalidated::contact(file, n)).collect::<Result<_, _>>()?,
+            contacts: (0..counts.contacts.into()).map(|n| prevalidated::contact(file, n, edition)).collect::<Result<_, _>>()?,
             channels: (0..counts.channels.into()).map(|n| prevalidated::channel(file, n)).collect::<Result<_, _>>()?,
             banks: (0..counts.banks.into()).map(bank).collect::<Result<_, _>>()?,
         })
+    }
+
+    pub fn context(&self) -> Context<'_> {
+        Context { edition: self.edition, contacts: &self.contacts }
     }
 
     /// The names of all contacts, channels or banks.

@@ -1,11 +1,10 @@
 //! Records as rows of cells: a table for people, JSON and CSV for programs.
 use crate::cell::{json_string, Cell};
 use crate::fail::Done;
-use crate::fields::{Field, Shown, CHANNEL, CONTACT, HEADER};
+use crate::fields::{Context, Field, Shown, CHANNEL, CONTACT, HEADER};
 use crate::out::{Out, Paint};
 use crate::records::{Bank, Records};
 use crate::values;
-use codeplug::Contact;
 
 #[derive(Clone, Copy, PartialEq)]
 pub enum Form {
@@ -31,9 +30,9 @@ pub struct Rows {
 
 const PLACE: Column = Column { key: "place", title: "place", shown: Shown::InTables };
 
-fn rows<R>(fields: &'static [Field<R>], records: &[R], contacts: &[Contact]) -> Rows {
+fn rows<R>(fields: &'static [Field<R>], records: &[R], context: Context) -> Rows {
     let row = |(n, record): (usize, &R)| {
-        let cells = fields.iter().map(|field| (field.get)(record, contacts));
+        let cells = fields.iter().map(|field| (field.get)(record, context));
         std::iter::once(Cell::Number(n as u64)).chain(cells).collect()
     };
     let columns = fields.iter().map(|field| Column { key: field.key, title: field.title, shown: field.shown });
@@ -45,14 +44,14 @@ fn rows<R>(fields: &'static [Field<R>], records: &[R], contacts: &[Contact]) -> 
 pub fn rows_of(records: &Records, part: &str) -> Rows {
     match part {
         "header" => {
-            let mut header = rows(HEADER, std::slice::from_ref(&records.header), &[]);
+            let mut header = rows(HEADER, std::slice::from_ref(&records.header), records.context());
             // There is one, which has no place.
             header.columns.remove(0);
             header.cells[0].remove(0);
             header.only(0)
         }
-        "contacts" => rows(CONTACT, &records.contacts, &[]),
-        "channels" => rows(CHANNEL, &records.channels, &records.contacts),
+        "contacts" => rows(CONTACT, &records.contacts, records.context()),
+        "channels" => rows(CHANNEL, &records.channels, records.context()),
         _ => banks(records),
     }
 }

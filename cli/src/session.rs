@@ -2,15 +2,16 @@
 use crate::args::Args;
 use crate::diff::{changes, print};
 use crate::disk::{read_codeplug, Lock};
+use crate::edition;
 use crate::edits::Edit;
 use crate::fail::{usage, Done, Fail};
 use crate::history::{Batch, Command, History, LARGEST_SIZE};
 use crate::out::{say, Out};
-use crate::reading::{shown, Reading};
+use crate::reading::{shown, Reading, HASH_BEFORE};
 use crate::records::Records;
 use crate::sha256::sha256;
 use crate::stored::{Order, Stored};
-use codeplug::{Codeplug, Refused, FILE_MAX};
+use codeplug::{Codeplug, Edition, Refused, FILE_MAX};
 use std::ffi::OsStr;
 use std::time::Duration;
 
@@ -21,6 +22,7 @@ pub const FLAGS: [&str; 2] = ["dry-run", "verbose"];
 pub struct Options {
     pub dry_run: bool,
     pub verbose: bool,
+    pub edition: Edition,
     history_size: Option<usize>,
     wait: Duration,
 }
@@ -30,6 +32,7 @@ impl Options {
         Ok(Options {
             dry_run: args.flag("dry-run"),
             verbose: args.flag("verbose"),
+            edition: edition::of(args)?,
             history_size: args.number("history-size", LARGEST_SIZE)?,
             wait: wait_of(args)?,
         })
@@ -39,6 +42,7 @@ impl Options {
 /// Refusals of a command, as the library has them of an edit and an undo.
 const TOO_SMALL: Refused = Refused { number: 37, place: 0 };
 const NO_UNDO: Refused = Refused { number: 38, place: 0 };
+const NOT_UNDONE: Refused = Refused { number: 39, place: 0 };
 const HISTORY_TOO_SMALL: &str = "what undo needs of this command does not fit the history (--history-size)";
 
 /// How long to wait for another codeplug.
@@ -84,9 +88,10 @@ pub struct Session {
 impl Session {
     pub fn open(name: &OsStr, options: Options) -> Result<Session, Fail> {
         let (stored, file, mut history) = read(name, &options)?;
-        let refused = |refused: Refused| Reading::New.refused(name, &file, refused);
-        let records = Records::of(&file).map_err(refused)?;
-        let codeplug = Codeplug::open(&file, FILE_MAX, 0).map_err(refused)?;
+        let edition = options.edition;
+        let refused = |refused: Refused| Reading::New.refused(name, &file, edition, refused);
+        let records = Records::of(&file, edition).map_err(refused)?;
+        let codeplug = Codeplug::open(&file, FILE_MAX, 0, edition).map_err(refused)?;
         if stored.is_some() {
             history.size = options.history_size.unwrap_or(history.size);
         }
@@ -128,7 +133,7 @@ impl Session {
         }
         self.lay_by();
         self.width = (self.codeplug.bytes().len() + 9 + 65_536).min(self.history.size);
-        let emptied = Codeplug::open(self.codeplug.bytes(), FILE_MAX, self.width);
+        let emptied = Codeplug::open(self.codeplug.bytes(), FILE_MAX, self.width, self.options.edition);
         self.codeplug = emptied.map_err(|refused| self.refused(refused, refused.text()))?;
         Ok(())
     }
@@ -164,7 +169,10 @@ impl Session {
     pub fn undo(mut self, count: usize, out: &mut Out) -> Done {
         let Some(stored) = &self.stored else { return Err(self.refused(NO_UNDO, NO_UNDO.text())) };
         let there = self.history.commands.len();
-        let undone = (0..count.min(there)).try_fold(self.file.clone(), |file, n| self.history.take_back(file, n));
+        let undone = self.taken_back(count, self.options.edition);
+        if undone.is_none() && self.taken_back(count, Edition::Newer).is_some() {
+            return Err(self.refused(NOT_UNDONE, HASH_BEFORE));
+        }
         let (false, Some(file)) = (stored.has_foreign_history(), undone) else {
             if self.options.dry_run {
                 stored.say_foreign();
@@ -183,9 +191,15 @@ impl Session {
         self.tell(&file)
     }
 
+    /// The file before its last commands, as many as there are; none where an edition refuses to go there, or the history is damaged.
+    fn taken_back(&self, count: usize, edition: Edition) -> Option<Vec<u8>> {
+        let there = self.history.commands.len();
+        (0..count.min(there)).try_fold(self.file.clone(), |file, n| self.history.take_back(&file, n, edition))
+    }
+
     /// What a file differs in from the one that was opened.
     fn changes(&self, file: &[u8]) -> Result<Vec<String>, Fail> {
-        let now = Records::of(file).map_err(|refused| self.refused(refused, refused.text()))?;
+        let now = Records::of(file, self.options.edition).map_err(|refused| self.refused(refused, refused.text()))?;
         Ok(changes(&self.records, &now))
     }
 
@@ -201,15 +215,15 @@ impl Session {
 /// Lists what can be undone, newest first.
 pub fn history(mut args: Args, out: &mut Out) -> Done {
     let most = args.number("count", usize::MAX)?.unwrap_or(usize::MAX);
-    let wait = wait_of(&mut args)?;
+    let (wait, edition) = (wait_of(&mut args)?, edition::of(&mut args)?);
     let name = args.next("FILE")?;
     args.end("history")?;
     if name == "-" {
         return usage("there is no history of standard input");
     }
     let (stored, file, history) = Stored::open(&name, Lock::Shared, wait)?;
-    let refused = |refused: Refused| Reading::New.refused(&name, &file, refused);
-    let mut newer = Records::of(&file).map_err(refused)?;
+    let refused = |refused: Refused| Reading::New.refused(&name, &file, edition, refused);
+    let mut newer = Records::of(&file, edition).map_err(refused)?;
     if stored.has_foreign_history() {
         stored.say_foreign();
     }
@@ -217,16 +231,22 @@ pub fn history(mut args: Args, out: &mut Out) -> Done {
     drop(stored);
     let mut state = file.clone();
     for n in 0..history.commands.len().min(most) {
-        let Some(before) = history.take_back(state, n) else {
-            return Err(Fail::Io(format!(
-                "{}: its history is damaged, or goes back to a legacy codeplug, and what follows cannot be undone",
-                shown(&name)
-            )));
+        let Some(before) = history.take_back(&state, n, edition) else {
+            return Err(not_listed(&name, history.take_back(&state, n, Edition::Newer).is_some()));
         };
-        let older = Records::of(&before).map_err(refused)?;
+        let older = Records::of(&before, edition).map_err(refused)?;
         out.line(&(n + 1).to_string())?;
         print(&changes(&older, &newer), "  ", out)?;
         (newer, state) = (older, before);
     }
     Ok(())
+}
+
+/// Why a history is listed no further: the newer edition would, or nothing does.
+fn not_listed(name: &OsStr, by_newer: bool) -> Fail {
+    if by_newer {
+        return Fail::Refused { about: shown(name), refused: NOT_UNDONE, words: HASH_BEFORE.into() };
+    }
+    let words = "its history is damaged, or goes back to a legacy codeplug, and what follows cannot be undone";
+    Fail::Io(format!("{}: {words}", shown(name)))
 }

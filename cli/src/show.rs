@@ -1,6 +1,7 @@
 //! The verb show: tables for people, JSON and CSV for programs.
 use crate::args::Args;
 use crate::disk::read_codeplug;
+use crate::edition;
 use crate::explain::label;
 use crate::fail::{usage, Done, Fail};
 use crate::out::{Out, Paint};
@@ -8,13 +9,13 @@ use crate::reading::{shown, Reading};
 use crate::records::Records;
 use crate::rows::{rows_of, Form};
 use crate::which::place_of;
-use codeplug::{prevalidated, Refused};
+use codeplug::{prevalidated, Edition, Refused};
 use std::ffi::OsStr;
 
 /// A file's records, or its refusal in words.
-pub fn open(name: &OsStr) -> Result<Records, Fail> {
+pub fn open(name: &OsStr, edition: Edition) -> Result<Records, Fail> {
     let file = read_codeplug(name)?;
-    Records::of(&file).map_err(|refused| Reading::New.refused(name, &file, refused))
+    Records::of(&file, edition).map_err(|refused| Reading::New.refused(name, &file, edition, refused))
 }
 
 /// What is shown: everything, one part, or one record.
@@ -48,6 +49,7 @@ pub fn show(mut args: Args, out: &mut Out) -> Done {
         (_, true) => Form::Csv,
         _ => Form::Table,
     };
+    let edition = edition::of(&mut args)?;
     let name = args.next("FILE")?;
     let wanted = wanted(&mut args)?;
     args.end("show")?;
@@ -55,14 +57,14 @@ pub fn show(mut args: Args, out: &mut Out) -> Done {
         return usage("--csv shows one part: header, contacts, channels or banks");
     }
     let file = read_codeplug(&name)?;
-    let records = Records::of(&file).map_err(|refused| Reading::New.refused(&name, &file, refused))?;
+    let records = Records::of(&file, edition).map_err(|refused| Reading::New.refused(&name, &file, edition, refused))?;
     match wanted {
         Wanted::All if form == Form::Json => all_json(&records, out),
         Wanted::All => all_tables(&records, out),
         Wanted::List(part) => rows_of(&records, part).print(form, out),
         Wanted::One(part, which) => {
             let n = place_of(part, &which, &records.names(part)).or_else(usage)?;
-            is_there(&file, part, n).map_err(|refused| {
+            is_there(&file, edition, part, n).map_err(|refused| {
                 let words = format!("there is no {part} {n}: the codeplug has {}", records.names(part).len());
                 Fail::Refused { about: shown(&name), refused, words }
             })?;
@@ -88,9 +90,9 @@ fn all_json(records: &Records, out: &mut Out) -> Done {
 }
 
 /// Whether the library has a record at a place.
-fn is_there(file: &[u8], part: &str, n: usize) -> Result<(), Refused> {
+fn is_there(file: &[u8], edition: Edition, part: &str, n: usize) -> Result<(), Refused> {
     match part {
-        "contact" => prevalidated::contact(file, n).map(|_| ()),
+        "contact" => prevalidated::contact(file, n, edition).map(|_| ()),
         "channel" => prevalidated::channel(file, n).map(|_| ()),
         _ => prevalidated::bank(file, n).map(|_| ()),
     }

@@ -1,9 +1,10 @@
 //! The verbs that change a codeplug: each is one or more of the twelve edits.
 use crate::args::Args;
 use crate::disk::{real_path, Folder, Prepared};
+use crate::edition;
 use crate::edits::Edit;
 use crate::fail::{io_fail, usage, Done, Fail};
-use crate::fields::{self, new_channel, new_contact, CHANNEL, CONTACT, HEADER};
+use crate::fields::{self, new_channel, new_contact, Context, CHANNEL, CONTACT, HEADER};
 use crate::out::Out;
 use crate::session::{Options, Session};
 use crate::which::{place, place_of};
@@ -40,12 +41,13 @@ pub fn channel_at(session: &Session, n: usize) -> Result<Channel, Fail> {
 
 /// A file's new empty codeplug.
 pub fn new(mut args: Args, out: &mut Out) -> Done {
+    let edition = edition::of(&mut args)?;
     let name = args.next("FILE")?;
     let counts = Counts { contacts: 0, channels: 0, banks: 0 };
     let mut header = Header { author: String::new(), description: String::new(), timestamp: 0, counts };
-    let given = fields::set(HEADER, &mut header, &mut args, &[])?;
+    let given = fields::set(HEADER, &mut header, &mut args, Context { edition, contacts: &[] })?;
     args.end("new")?;
-    let mut codeplug = Codeplug::empty(0, HEADER_SIZE);
+    let mut codeplug = Codeplug::empty(0, HEADER_SIZE, edition);
     if !given.is_empty() {
         let edit = set_header(header);
         edit.make(&mut codeplug).map_err(|refused| {
@@ -86,17 +88,17 @@ pub fn set(mut args: Args, out: &mut Out) -> Done {
     let (edit, given) = match part {
         "header" => {
             let mut header = session.records.header.clone();
-            let given = fields::set(HEADER, &mut header, &mut args, &[])?;
+            let given = fields::set(HEADER, &mut header, &mut args, session.records.context())?;
             (set_header(header), given)
         }
         "contact" => {
             let mut contact = contact_at(&session, n)?;
-            let given = set_contact(&mut contact, &mut args, true)?;
+            let given = set_contact(&session, &mut contact, &mut args, true)?;
             (Edit::ReplaceContact(n, contact), given)
         }
         "channel" => {
             let mut channel = channel_at(&session, n)?;
-            let given = fields::set(CHANNEL, &mut channel, &mut args, &session.records.contacts)?;
+            let given = fields::set(CHANNEL, &mut channel, &mut args, session.records.context())?;
             (Edit::ReplaceChannel(n, channel), given)
         }
         _ => (Edit::RenameBank(n, bank_name(&mut args)?), vec!["name"]),
@@ -110,9 +112,9 @@ pub fn set(mut args: Args, out: &mut Out) -> Done {
 }
 
 /// Sets a contact's fields. One that does not exist yet, or gets another mode, needs whom it calls.
-fn set_contact(contact: &mut Contact, args: &mut Args, exists: bool) -> Result<Vec<&'static str>, Fail> {
+fn set_contact(session: &Session, contact: &mut Contact, args: &mut Args, exists: bool) -> Result<Vec<&'static str>, Fail> {
     let mode = std::mem::discriminant(&contact.info);
-    let given = fields::set(CONTACT, contact, args, &[])?;
+    let given = fields::set(CONTACT, contact, args, session.records.context())?;
     let has = |option: &str| given.contains(&option);
     let addresses = ["callsign", "broadcast", "address"].into_iter().filter(|option| has(option)).count();
     if addresses > 1 {
@@ -169,27 +171,27 @@ fn new_contact_of(session: &Session, args: &mut Args, like: Option<String>) -> R
     let Some(like) = like else {
         needed(args, &["name", "mode"], "contact")?;
         let mut contact = new_contact();
-        set_contact(&mut contact, args, false)?;
+        set_contact(session, &mut contact, args, false)?;
         return Ok(contact);
     };
     let mut contact = contact_at(session, which(session, "contact", &like)?)?;
-    set_contact(&mut contact, args, true)?;
+    set_contact(session, &mut contact, args, true)?;
     Ok(contact)
 }
 
 fn new_channel_of(session: &Session, args: &mut Args, like: Option<String>) -> Result<Channel, Fail> {
-    let contacts = &session.records.contacts;
+    let context = session.records.context();
     let Some(like) = like else {
         needed(args, &["name", "mode", "receive-frequency"], "channel")?;
         let mut channel = new_channel();
-        let given = fields::set(CHANNEL, &mut channel, args, contacts)?;
+        let given = fields::set(CHANNEL, &mut channel, args, context)?;
         if !given.contains(&"transmit-frequency") {
             channel.transmit_hz = channel.receive_hz;
         }
         return Ok(channel);
     };
     let mut channel = channel_at(session, which(session, "channel", &like)?)?;
-    fields::set(CHANNEL, &mut channel, args, contacts)?;
+    fields::set(CHANNEL, &mut channel, args, context)?;
     Ok(channel)
 }
 

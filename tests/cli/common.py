@@ -20,6 +20,7 @@ SAMPLES = ROOT / "samples"
 HELP = pathlib.Path(os.environ.get("CODEPLUG_HELP", ROOT / ("cli/help" if (ROOT / "cli/help").is_dir() else "help")))  # the help texts
 GOOD = ["club", "dealer", "hire", "empty"]
 LIMIT = 1_048_576
+os.environ.pop("CODEPLUG_EDITION", None)  # a test says itself by which edition it goes
 HEADER, CONTACT, CHANNEL = 88, 39, 90  # the records' sizes
 
 # ---- the program ----
@@ -106,13 +107,18 @@ ENCRYPTIONS = ["plain", "aes-256", "scrambler"]
 DIGITS = " ABCDEFGHIJKLMNOPQRSTUVWXYZ0123456789-/."
 BROADCAST = 0xFFFFFFFFFFFF
 NOBODY = 0xFFFF
+HASH, LAST_HASH = 40**9, 40**9 + 40**8 - 1  # the first and the last hash address, of the newer edition (document 02, [10])
 
 
 def address(callsign):
+    if callsign.startswith("#"):
+        return HASH + address(callsign[1:])
     return sum(DIGITS.index(c) * 40**i for i, c in enumerate(callsign))
 
 
 def callsign(number):
+    if number >= HASH:
+        return "#" + callsign(number - HASH)
     return "" if number == 0 else DIGITS[number % 40] + callsign(number // 40)
 
 

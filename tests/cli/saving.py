@@ -16,6 +16,7 @@ PROGRAM = os.path.abspath(os.environ.get("CODEPLUG") or HERE / "../../cli/target
 SAMPLES = pathlib.Path(os.environ.get("CODEPLUG_SAMPLES") or HERE / "../../samples").resolve()
 MEMORY = "/dev/shm" if os.access("/dev/shm", os.W_OK) else None
 LIMIT = 1_048_576
+os.environ.pop("CODEPLUG_EDITION", None)  # a test says itself by which edition it goes
 STRANGER = 54_321
 SMALL = ("--history-size", "65536")  # the program is the faster for it, where no test is about the size
 

@@ -7,7 +7,7 @@ import re
 import struct
 import unittest
 
-from common import BROADCAST, CHANNEL, CONTACT, HEADER, LIMIT, SAMPLES, Case, longest, run
+from common import BROADCAST, CHANNEL, CONTACT, HASH, HEADER, LAST_HASH, LIMIT, SAMPLES, Case, longest, run
 
 CLUB, LEGACY = ((SAMPLES / f"{name}.rtxc").read_bytes() for name in ("club", "club-legacy"))  # the same codeplug in either order
 CHANNELS = HEADER + 6 * CONTACT  # where the club's channels begin
@@ -25,8 +25,9 @@ class Bad(Exception):
 class Reader:
     """Goes through the fields in order and raises Bad for the first bad one; keeps a list of those that it met."""
 
-    def __init__(self, plug, legacy):
-        self.plug, self.legacy, self.at, self.fields, self.record = plug, legacy, 0, [], ("header", None)
+    def __init__(self, plug, legacy, newer):
+        self.plug, self.legacy, self.newer = plug, legacy, newer
+        self.at, self.fields, self.record = 0, [], ("header", None)
 
     def take(self, size, field, number=7, good=lambda raw: True):
         self.fields.append((self.at, size, *self.record, field))
@@ -51,16 +52,16 @@ def is_text(raw):
     return re.fullmatch(rb"[ -~]*\0*", raw) is not None
 
 
-def is_address(raw):
+def is_address(raw, newer):
     number = int.from_bytes(raw, "big")
-    return 0 < number < 40**9 or number == BROADCAST
+    return 0 < number < HASH or newer and HASH <= number <= LAST_HASH or number == BROADCAST
 
 
-def judge(plug, legacy=False):
-    """The reader after a valid codeplug; Bad for another. legacy: by the legacy reading."""
+def judge(plug, legacy=False, newer=False):
+    """The reader after a valid codeplug; Bad for another. legacy: by the legacy reading; newer: by the newer edition of addresses."""
     if len(plug) > LIMIT:
         raise Bad(1, 0, "file", None, "length")
-    r = Reader(plug, legacy)
+    r = Reader(plug, legacy, newer)
     r.take(8, "magic", 3, lambda raw: raw == b"RTXC\0\0\0\0")
     r.take(2, "version", 4, lambda raw: raw == b"\1\0")
     r.text("author")
@@ -81,7 +82,7 @@ def judge_contact(r, n):
     r.text("name")
     mode = r.byte("mode", lambda b: b in (1, 2), 6)
     if mode == 2:
-        r.take(6, "address", 8, is_address)
+        r.take(6, "address", 8, lambda raw: is_address(raw, r.newer))
     else:
         r.take(4, "id")
         r.packed("settings")
@@ -141,10 +142,10 @@ def judge_banks(r, channels, banks):
             r.take(2, f"entry {j}", 11, lambda raw: int.from_bytes(raw, "little") < channels)
 
 
-def verdict(plug, legacy=False):
+def verdict(plug, legacy=False, newer=False):
     """The first line, and what was found bad."""
     try:
-        met = judge(plug, legacy)
+        met = judge(plug, legacy, newer)
     except Bad as bad:
         return f"refused {bad.number} at {bad.place}", bad
     return "ok " + " ".join(str(int.from_bytes(met.plug[at : at + 2], "little")) for at in (82, 84, 86)), None
@@ -205,14 +206,15 @@ class Check(Case):
         named = re.escape(record(plug, bad)) + (r"( \([^)]*\))?" if "(" not in record(plug, bad) and bad.n is not None else "")
         self.assertRegex(line, rf"\b{named}[,:] ((the|first|second|third) )?({field})\b", bad.args)
 
-    def check_all(self, plugs, legacy=False):
+    def check_all(self, plugs, legacy=False, newer=False):
         """Checks all these, and the club's own, in one call: a line each on standard output, and for each refused one a line of words."""
         plugs = [*plugs, LEGACY if legacy else CLUB]
         names = [f"{n}.x" for n in range(len(plugs))]
         for name, plug in zip(names, plugs):
             self.write(name, plug)
-        answer = run("check", *names, *(["--legacy"] if legacy else []), cwd=self.folder)
-        verdicts = [verdict(plug, legacy) for plug in plugs]
+        options = ["--legacy"] * legacy + ["--edition", "newer"] * newer
+        answer = run("check", *names, *options, cwd=self.folder)
+        verdicts = [verdict(plug, legacy, newer) for plug in plugs]
         self.assertEqual(answer.text.splitlines(), [f"{name}: {line}" for name, (line, _) in zip(names, verdicts)])
         spoilt = [(name, plug, bad) for name, plug, (_, bad) in zip(names, plugs, verdicts) if bad]
         lines = answer.err.splitlines()
@@ -292,7 +294,7 @@ class Samples(Check):
 
     def test_the_words_on_every_sample(self):
         refused = [path.read_bytes() for path in sorted(SAMPLES.glob("*.rtxc"))]
-        self.assertEqual(len(self.check_all(refused)), 10)
+        self.assertEqual(len(self.check_all(refused)), 11)
 
     def test_the_issues_own_example(self):
         words = run("check", self.folder / "club-tone-50.rtxc").err

@@ -474,7 +474,7 @@ class Hint(Migrate):
 class CheckLegacy(Check):
     def test_every_sample(self):
         found = self.check_all([path.read_bytes() for path in sorted(SAMPLES.glob("*.rtxc"))], legacy=True)
-        self.assertEqual(len(found), 10)
+        self.assertEqual(len(found), 11)
 
     def test_the_pair(self):
         self.assertEqual(self.ok("check", "--legacy", self.folder / "club-legacy.rtxc"), "ok 6 10 4\n")

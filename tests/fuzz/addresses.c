@@ -1,38 +1,39 @@
-/* Target: callsigns to addresses and back, one to one; and the tones. The input is a byte that says how, then a text or a number. */
+/* Target: callsigns to addresses and back, one to one by each edition; and the tones. The input is a byte that says how, its top bit the
+ * edition, then a text or a number. */
 #include "blocks.h"
 #include "codeplug.h"
+#include "edition.h"
 #include "guarded.h"
 #include "must.h"
 #include "take.h"
 #include "text.h"
 
-enum { FRESH = 0xEE };
+enum { FRESH = 0xEE, MOST_OUT = 32 };
 
-static const uint64_t BROADCAST = 0xFFFFFFFFFFFF, LAST = 262143999999999;
-
-static bool at_start;
+static bool at_start, newer;
+static uint32_t edition, other_edition;
 
 static bool is_character(uint8_t c)
 {
     return (c >= 'A' && c <= 'Z') || (c >= '0' && c <= '9') || c == ' ' || c == '-' || c == '/' || c == '.';
 }
 
-/* The refusal of a text, by document 01. */
+/* The refusal of a text, by document 01 and request [10] of document 02. */
 static struct codeplug_refusal text_refusal(const uint8_t *text, size_t size)
 {
     if (size < 1 || size > CODEPLUG_CALLSIGN_SIZE)
         return (struct codeplug_refusal){CODEPLUG_REFUSED_CALLSIGN_LENGTH, 0};
-    for (size_t i = 0; i < size; i++)
+    for (size_t i = newer && text[0] == '#'; i < size; i++)
         if (!is_character(text[i]))
             return (struct codeplug_refusal){CODEPLUG_REFUSED_CALLSIGN_FOREIGN, i};
     return (struct codeplug_refusal){text[size - 1] == ' ' ? CODEPLUG_REFUSED_CALLSIGN_SPACE : CODEPLUG_OK, 0};
 }
 
 /* A number into a buffer of any size. */
-static struct codeplug_decode_answer decoded(uint64_t number, size_t size, uint8_t **out)
+static struct codeplug_decode_answer decoded(uint64_t number, size_t size, uint32_t by, uint8_t **out)
 {
     *out = guarded(SLOT_TEXT, at_start, NULL, size);
-    struct codeplug_decode_answer a = codeplug_decode_address(number, *out, size);
+    struct codeplug_decode_answer a = codeplug_decode_address(number, *out, size, by);
     guarded_check(SLOT_TEXT);
     bool written = a.number == CODEPLUG_OK && !a.broadcast;
     must(all_are(*out, written ? CODEPLUG_CALLSIGN_SIZE : 0, size, FRESH));
@@ -42,16 +43,19 @@ static struct codeplug_decode_answer decoded(uint64_t number, size_t size, uint8
 
 static uint64_t text(const uint8_t *bytes, size_t size)
 {
-    struct codeplug_encode_answer a = codeplug_encode_callsign(guarded(SLOT_OTHER, at_start, bytes, size), size);
+    const uint8_t *lent = guarded(SLOT_OTHER, at_start, bytes, size);
+    struct codeplug_encode_answer a = codeplug_encode_callsign(lent, size, edition);
     struct codeplug_refusal r = text_refusal(bytes, size);
+    bool hash = size > 0 && bytes[0] == '#';
     must(a.number == r.number && a.place == r.place);
+    must(hash || same_encode(a, codeplug_encode_callsign(lent, size, other_edition)));
     if (a.number != CODEPLUG_OK) {
         must(a.address == 0);
         return 0;
     }
-    must(a.address >= 1 && a.address <= LAST);
+    must(hash ? is_hash(a.address) : a.address >= 1 && a.address < FIRST_HASH);
     uint8_t *out;
-    struct codeplug_decode_answer d = decoded(a.address, CODEPLUG_CALLSIGN_SIZE + size, &out);
+    struct codeplug_decode_answer d = decoded(a.address, CODEPLUG_CALLSIGN_SIZE + size, edition, &out);
     must(d.number == CODEPLUG_OK && !d.broadcast && d.length == size && memcmp(out, bytes, size) == 0);
     must(all_are(out, size, CODEPLUG_CALLSIGN_SIZE, 0));
     return a.address;
@@ -59,16 +63,19 @@ static uint64_t text(const uint8_t *bytes, size_t size)
 
 static void number(uint64_t n, size_t size)
 {
-    uint8_t *out;
-    struct codeplug_decode_answer d = decoded(n, size, &out);
-    bool is_callsign = n >= 1 && n <= LAST;
+    uint8_t *out, by_other[MOST_OUT];
+    struct codeplug_decode_answer o = decoded(n, size, other_edition, &out);
+    memcpy(by_other, out, size);
+    struct codeplug_decode_answer d = decoded(n, size, edition, &out);
+    bool is_callsign = (n >= 1 && n < FIRST_HASH) || (newer && is_hash(n));
+    must(is_hash(n) || (same_decode(d, o) && memcmp(out, by_other, size) == 0));
     must(d.place == 0 && d.broadcast == (n == BROADCAST && size >= CODEPLUG_CALLSIGN_SIZE));
     if (size < CODEPLUG_CALLSIGN_SIZE)
         must(d.number == CODEPLUG_REFUSED_CALLSIGN_BUFFER);
     else if (!is_callsign)
         must(d.number == (n == BROADCAST ? CODEPLUG_OK : CODEPLUG_REFUSED_ADDRESS_NUMBER));
     else
-        must(d.number == CODEPLUG_OK && codeplug_encode_callsign(out, d.length).address == n);
+        must(d.number == CODEPLUG_OK && codeplug_encode_callsign(out, d.length, edition).address == n);
 }
 
 /* Two texts have one address only where they are the same. */
@@ -103,12 +110,15 @@ int LLVMFuzzerTestOneInput(const uint8_t *data, size_t size)
         return 0;
     blocks_again();
     at_start = how & 4;
+    newer = how >= 128;
+    edition = edition_number(newer, how >> 5);
+    other_edition = edition_number(!newer, how >> 5);
     switch (how & 3) {
     case 0:
         text(in.at, in.left);
         break;
     case 1:
-        number(take_number(&in, 8), take_byte(&in) % 32);
+        number(take_number(&in, 8), take_byte(&in) % MOST_OUT);
         break;
     case 2:
         two_texts(in.at, in.left);

@@ -1,4 +1,5 @@
-/* Target: the input is an opening and a list of calls. After each call the answer and both whole buffers have to be consistent. */
+/* Target: the input is an opening and a list of calls, by one edition or by both in turn. After each call the answer and both whole buffers
+ * have to be consistent. */
 #include "blocks.h"
 #include "codeplug.h"
 #include "history.h"
@@ -45,10 +46,10 @@ static void dropped(struct state *s)
 static struct codeplug_edit_answer make(struct state *s, const struct call *c)
 {
     if (c->undo)
-        return codeplug_undo(s->room, room_size, c->length, s->history, history_size, c->used);
+        return codeplug_undo(s->room, room_size, c->length, s->history, history_size, c->used, c->edition);
     const uint8_t *record = c->record_length > 0 ? guarded(SLOT_RECORD, false, c->record, c->record_length) : NULL;
     return codeplug_edit(s->room, room_size, c->length, s->history, history_size, c->used, c->kind, c->first, c->second, record,
-        c->record_length);
+        c->record_length, c->edition);
 }
 
 /* What an accepted call leaves after the new length: zeros up to the old, and later bytes as they were. */
@@ -69,6 +70,13 @@ static long counted(const uint8_t *history, size_t used)
     return entries;
 }
 
+/* Whether the file before the last edit has an address that the edition refuses: it was made by the newer one. */
+static bool refuses_before(uint32_t edition)
+{
+    return edits_made > 0
+        && codeplug_validate(before[edits_made - 1].bytes, before[edits_made - 1].length, edition).number == CODEPLUG_REFUSED_ADDRESS;
+}
+
 static void refused(const struct state *s, const struct state *old, struct codeplug_edit_answer a, const struct call *c)
 {
     must(memcmp(s->room, old->room, room_size) == 0 && memcmp(s->history, old->history, history_size) == 0);
@@ -77,13 +85,13 @@ static void refused(const struct state *s, const struct state *old, struct codep
     if (a.number == CODEPLUG_REFUSED_NO_UNDO)
         must(c->undo && c->used == 0);
     if (a.number == CODEPLUG_REFUSED_HISTORY_ENTRY)
-        must(c->undo && (edits_made == 0 || c->used != actual_used));
+        must(c->undo && (edits_made == 0 || c->used != actual_used || refuses_before(c->edition)));
 }
 
-static void accepted(const struct state *s, const struct state *old, struct codeplug_edit_answer a)
+static void accepted(const struct state *s, const struct state *old, struct codeplug_edit_answer a, uint32_t edition)
 {
     must(a.length <= room_size && a.used <= history_size);
-    must(codeplug_validate(s->room, a.length).number == CODEPLUG_OK);
+    must(codeplug_validate(s->room, a.length, edition).number == CODEPLUG_OK);
     must(counted(s->history, a.used) == (long)a.entries);
     spare(s->room, old->room, room_size, a.length, old->length);
     spare(s->history, old->history, history_size, a.used, old->used);
@@ -94,11 +102,11 @@ static bool is_file(const struct state *s, const uint8_t *bytes, size_t length)
     return s->length == length && memcmp(s->room, bytes, length) == 0;
 }
 
-/* An undo, made on a copy, gives back the file before the edit. */
-static void taken_back(const struct state *s, const struct state *old, size_t entries)
+/* An undo by the same edition, made on a copy, gives back the file before the edit. */
+static void taken_back(const struct state *s, const struct state *old, size_t entries, uint32_t edition)
 {
     struct state copy = copied(s);
-    struct codeplug_edit_answer a = codeplug_undo(copy.room, room_size, s->length, copy.history, history_size, s->used);
+    struct codeplug_edit_answer a = codeplug_undo(copy.room, room_size, s->length, copy.history, history_size, s->used, edition);
     must(a.number == CODEPLUG_OK && a.entries == entries - 1);
     copy.length = a.length;
     must(is_file(&copy, old->room, old->length));
@@ -128,11 +136,11 @@ static uint8_t step(struct state *s, const struct call *c)
     if (a.number != CODEPLUG_OK) {
         refused(s, &old, a, c);
     } else {
-        accepted(s, &old, a);
+        accepted(s, &old, a, c->edition);
         s->length = a.length;
         s->used = a.used;
         if (!c->undo)
-            taken_back(s, &old, a.entries);
+            taken_back(s, &old, a.entries, c->edition);
         if (c->used == actual_used)
             remember(&old, c->undo, s);
     }
@@ -143,9 +151,8 @@ static uint8_t step(struct state *s, const struct call *c)
     return a.number;
 }
 
-static void all_calls(struct state *s, struct input in)
+static void all_calls(struct state *s, struct list list)
 {
-    struct list list = {.in = in};
     uint8_t last = 0;
     while (plan_next(&list, s->room, s->length, s->used)) {
         actual_used = s->used;
@@ -177,7 +184,7 @@ int LLVMFuzzerTestOneInput(const uint8_t *data, size_t size)
     memcpy(s.room, o.file, o.file_length);
     memcpy(s.history, o.entries, o.entries_length);
     counted(s.history, s.used);
-    all_calls(&s, in);
+    all_calls(&s, (struct list){.in = in, .newer = o.newer, .changes = o.changes});
     while (edits_made > 0)
         free(before[--edits_made].bytes);
     return 0;

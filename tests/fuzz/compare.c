@@ -1,6 +1,8 @@
 /* Target: the same input to the library and to the second program; every answer and every whole buffer has to be the same. The input is a
- * byte that says what is compared, then a file, an opening and calls, a record's numbers, an address, a text or a history. */
+ * byte that says what is compared and by which edition, then a file, an opening and calls, a record's numbers, an address, a text or a
+ * history. An opening has its own edition. */
 #include "blocks.h"
+#include "edition.h"
 #include "valid_file.h"
 #include "guarded.h"
 #include "must.h"
@@ -12,6 +14,7 @@
 enum { OTHER_SIZE = GUARDED_MOST, HISTORY_MOST = 1 << 15 };
 
 static bool at_start;
+static uint32_t edition;
 static uint8_t other[OTHER_SIZE], other_history[HISTORY_MOST]; /* the second program's buffers */
 
 /* Lends a buffer to the library, and the same bytes to the second program. */
@@ -30,22 +33,22 @@ static void buffers_agree(const uint8_t *ours, size_t size)
 static void record_n(const uint8_t *file, size_t length, size_t n, size_t size)
 {
     uint8_t *texts = both(size);
-    must(same_contact(codeplug_contact(file, length, n, texts, size), second_contact(file, length, n, other, size)));
+    must(same_contact(codeplug_contact(file, length, n, texts, size, edition), second_contact(file, length, n, other, size, edition)));
     buffers_agree(texts, size);
-    must(same_channel(codeplug_channel(file, length, n, texts, size), second_channel(file, length, n, other, size)));
+    must(same_channel(codeplug_channel(file, length, n, texts, size, edition), second_channel(file, length, n, other, size, edition)));
     buffers_agree(texts, size);
-    must(same_bank(codeplug_bank(file, length, n, texts, size), second_bank(file, length, n, other, size)));
+    must(same_bank(codeplug_bank(file, length, n, texts, size, edition), second_bank(file, length, n, other, size, edition)));
     buffers_agree(texts, size);
     for (size_t i = 0; i < 3; i++)
-        must(same_bank_entry(codeplug_bank_entry(file, length, n, i), second_bank_entry(file, length, n, i)));
+        must(same_bank_entry(codeplug_bank_entry(file, length, n, i, edition), second_bank_entry(file, length, n, i, edition)));
 }
 
 /* The same by the readers that do not validate the file. */
 static void prevalidated_n(const uint8_t *file, size_t length, size_t n, size_t size)
 {
     uint8_t *texts = both(size);
-    must(same_contact(codeplug_contact_prevalidated(file, length, n, texts, size),
-        second_contact_prevalidated(file, length, n, other, size)));
+    must(same_contact(codeplug_contact_prevalidated(file, length, n, texts, size, edition),
+        second_contact_prevalidated(file, length, n, other, size, edition)));
     buffers_agree(texts, size);
     must(same_channel(codeplug_channel_prevalidated(file, length, n, texts, size),
         second_channel_prevalidated(file, length, n, other, size)));
@@ -63,8 +66,8 @@ static void migrated(const uint8_t *bytes, size_t length)
 {
     uint8_t *file = guarded(SLOT_FILE, at_start, bytes, length);
     memcpy(other, file, length);
-    must(same_validate(codeplug_validate_legacy(file, length), second_validate_legacy(file, length)));
-    must(same_validate(codeplug_migrate(file, length), second_migrate(other, length)));
+    must(same_validate(codeplug_validate_legacy(file, length, edition), second_validate_legacy(file, length, edition)));
+    must(same_validate(codeplug_migrate(file, length, edition), second_migrate(other, length, edition)));
     must(memcmp(file, other, length) == 0);
     guarded_check(SLOT_FILE);
 }
@@ -72,9 +75,9 @@ static void migrated(const uint8_t *bytes, size_t length)
 static void a_file(const uint8_t *bytes, size_t length, size_t size, size_t n)
 {
     const uint8_t *file = guarded(SLOT_FILE, at_start, bytes, length);
-    must(same_validate(codeplug_validate(file, length), second_validate(file, length)));
+    must(same_validate(codeplug_validate(file, length, edition), second_validate(file, length, edition)));
     uint8_t *texts = both(size);
-    must(same_header(codeplug_header(file, length, texts, size), second_header(file, length, other, size)));
+    must(same_header(codeplug_header(file, length, texts, size, edition), second_header(file, length, other, size, edition)));
     buffers_agree(texts, size);
     for (size_t i = 0; i < 3; i++) {
         record_n(file, length, i, size);
@@ -122,18 +125,18 @@ static void made_legacy_files(struct input in)
 static struct codeplug_edit_answer call(const struct opening *o, const struct call *c, uint8_t *room, uint8_t *history)
 {
     if (c->undo)
-        return codeplug_undo(room, o->room_size, c->length, history, o->history_size, c->used);
+        return codeplug_undo(room, o->room_size, c->length, history, o->history_size, c->used, c->edition);
     const uint8_t *record = guarded(SLOT_RECORD, at_start, c->record, c->record_length);
     return codeplug_edit(room, o->room_size, c->length, history, o->history_size, c->used, c->kind, c->first, c->second, record,
-        c->record_length);
+        c->record_length, c->edition);
 }
 
 static struct codeplug_edit_answer second_call(const struct opening *o, const struct call *c)
 {
     if (c->undo)
-        return second_undo(other, o->room_size, c->length, other_history, o->history_size, c->used);
+        return second_undo(other, o->room_size, c->length, other_history, o->history_size, c->used, c->edition);
     return second_edit(other, o->room_size, c->length, other_history, o->history_size, c->used, c->kind, c->first, c->second, c->record,
-        c->record_length);
+        c->record_length, c->edition);
 }
 
 static void calls(struct input in)
@@ -145,7 +148,7 @@ static void calls(struct input in)
     memcpy(history, o.entries, o.entries_length);
     memcpy(other, room, o.room_size);
     memcpy(other_history, history, o.history_size);
-    struct list list = {.in = in};
+    struct list list = {.in = in, .newer = o.newer, .changes = o.changes};
     size_t length = o.file_length, used = o.entries_length;
     while (plan_next(&list, room, length, used)) {
         struct codeplug_edit_answer a = call(&o, &list.call, room, history);
@@ -187,7 +190,8 @@ static void contact(struct input in)
     struct codeplug_contact_values values = take_contact(&in, true);
     const uint8_t *from = take_some(&in, 48, &length), *name = guarded(SLOT_OTHER, at_start, from, length);
     uint8_t *out = both(size);
-    must(same_refusal(codeplug_write_contact(out, size, name, length, values), second_write_contact(other, size, name, length, values)));
+    must(same_refusal(codeplug_write_contact(out, size, name, length, values, edition),
+        second_write_contact(other, size, name, length, values, edition)));
     buffers_agree(out, size);
 }
 
@@ -212,9 +216,9 @@ static void address(struct input in)
     uint64_t number = take_number(&in, 8);
     const uint8_t *text = guarded(SLOT_OTHER, at_start, in.at, in.left);
     uint8_t *out = both(size);
-    must(same_decode(codeplug_decode_address(number, out, size), second_decode_address(number, other, size)));
+    must(same_decode(codeplug_decode_address(number, out, size, edition), second_decode_address(number, other, size, edition)));
     buffers_agree(out, size);
-    must(same_encode(codeplug_encode_callsign(text, in.left), second_encode_callsign(text, in.left)));
+    must(same_encode(codeplug_encode_callsign(text, in.left, edition), second_encode_callsign(text, in.left, edition)));
     must(codeplug_tone_frequency((uint8_t)size) == second_tone_frequency((uint8_t)size));
     must(codeplug_tone_frequency((uint8_t)number) == second_tone_frequency((uint8_t)number));
     must(codeplug_tone_index((uint16_t)number) == second_tone_index((uint16_t)number));
@@ -238,6 +242,7 @@ int LLVMFuzzerTestOneInput(const uint8_t *data, size_t size)
     blocks_again();
     at_start = how >= 128;
     how %= 128;
+    edition = edition_number(how < MADE ? how / 5 % 2 : how % 2, how / 10);
     if (how < MADE)
         what[how % 5](in);
     else if (how < TEXT)

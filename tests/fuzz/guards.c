@@ -15,13 +15,13 @@ static const uint8_t empty[CODEPLUG_HEADER_SIZE] = {'R', 'T', 'X', 'C', [8] = 1}
 /* Plain reads past the end: 88 bytes are stated and 87 are lent. */
 static void read_past(bool at_start)
 {
-    codeplug_validate(guarded(SLOT_FILE, at_start, empty, sizeof empty - 1), sizeof empty);
+    codeplug_validate(guarded(SLOT_FILE, at_start, empty, sizeof empty - 1), sizeof empty, CODEPLUG_EDITION_OLDER);
 }
 
 /* Stores past the end of nine bytes' room. */
 static void store_past(bool at_start)
 {
-    codeplug_decode_address(262143999999999, guarded(SLOT_TEXT, at_start, NULL, 8), 9);
+    codeplug_decode_address(262143999999999, guarded(SLOT_TEXT, at_start, NULL, 8), 9, CODEPLUG_EDITION_OLDER);
     guarded_check(SLOT_TEXT);
 }
 
@@ -29,7 +29,7 @@ static void store_past(bool at_start)
 static void record_past(bool at_start)
 {
     struct codeplug_contact_values v = {.mode = CODEPLUG_DMR};
-    codeplug_write_contact(guarded(SLOT_RECORD, at_start, NULL, 38), 39, empty, 4, v);
+    codeplug_write_contact(guarded(SLOT_RECORD, at_start, NULL, 38), 39, empty, 4, v, CODEPLUG_EDITION_OLDER);
     guarded_check(SLOT_RECORD);
 }
 
@@ -39,7 +39,8 @@ static void edit_past(bool at_start)
     uint8_t record[CODEPLUG_TEXT_SIZE] = "bank", history[16];
     uint8_t *room = guarded(SLOT_FILE, at_start, NULL, 125);
     memcpy(room, empty, sizeof empty);
-    codeplug_edit(room, 126, sizeof empty, history, sizeof history, 0, CODEPLUG_INSERT_BANK, 0, 0, record, sizeof record);
+    codeplug_edit(room, 126, sizeof empty, history, sizeof history, 0, CODEPLUG_INSERT_BANK, 0, 0, record, sizeof record,
+        CODEPLUG_EDITION_OLDER);
     guarded_check(SLOT_FILE);
 }
 

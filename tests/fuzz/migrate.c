@@ -1,9 +1,11 @@
-/* Target: the input is a file. It is validated by both readings and migrated, wherever it is lent. A file that the new reading accepts is
- * also put in the legacy order, and has to come back. */
+/* Target: the input is a file, and the top bit of its first byte the edition. It is validated by both readings and migrated, wherever it is
+ * lent. A file that the new reading accepts is also put in the legacy order, and has to come back. What one edition answers has to fit what
+ * the other does. */
 #include <string.h>
 
 #include "blocks.h"
 #include "codeplug.h"
+#include "edition.h"
 #include "guarded.h"
 #include "legacy.h"
 #include "must.h"
@@ -13,6 +15,7 @@
 __attribute__((section("__libfuzzer_extra_counters"))) static uint8_t seen[13][12];
 
 static size_t length;
+static uint32_t edition;
 static bool at_start;
 
 /* The answers differ only where one reading refuses a settings byte before the other comes to its answer. */
@@ -50,9 +53,10 @@ static void accepted(uint8_t *file, const uint8_t *old, struct codeplug_validate
 {
     static uint8_t expected[GUARDED_MOST];
     size_t first = expect(old, a, expected);
-    must(memcmp(file, expected, length) == 0 && same_validate(a, codeplug_validate(file, length)));
+    must(memcmp(file, expected, length) == 0 && same_validate(a, codeplug_validate(file, length, edition)));
     struct codeplug_validate_answer twice = first == 0 ? a : (struct codeplug_validate_answer){CODEPLUG_REFUSED_VALUE, first, 0, 0, 0};
-    must(same_validate(twice, codeplug_validate_legacy(file, length)) && same_validate(twice, codeplug_migrate(file, length)));
+    must(same_validate(twice, codeplug_validate_legacy(file, length, edition)));
+    must(same_validate(twice, codeplug_migrate(file, length, edition)));
     must(memcmp(file, expected, length) == 0);
     guarded_check(SLOT_FILE);
 }
@@ -61,10 +65,10 @@ static void accepted(uint8_t *file, const uint8_t *old, struct codeplug_validate
 static const uint8_t *migrated(const uint8_t *old)
 {
     uint8_t *file = guarded(SLOT_FILE, at_start, old, length);
-    struct codeplug_validate_answer a = codeplug_validate_legacy(file, length);
-    readings(a, codeplug_validate(file, length));
+    struct codeplug_validate_answer a = codeplug_validate_legacy(file, length, edition);
+    readings(a, codeplug_validate(file, length, edition));
     must(length == 0 || memcmp(file, old, length) == 0);
-    must(same_validate(a, codeplug_migrate(file, length)));
+    must(same_validate(a, codeplug_migrate(file, length, edition)));
     guarded_check(SLOT_FILE);
     if (a.number == CODEPLUG_OK)
         accepted(file, old, a);
@@ -96,18 +100,24 @@ int LLVMFuzzerInitialize(int *argc, char ***argv)
 
 int LLVMFuzzerTestOneInput(const uint8_t *data, size_t size)
 {
+    static uint8_t bytes[GUARDED_MOST];
     if (size > GUARDED_MOST)
         return 0;
     blocks_again();
+    if (size > 0)
+        memcpy(bytes, data, size);
+    edition = edition_of_file(bytes, size);
     length = size;
     if (size == 0)
-        must(same_validate(codeplug_validate_legacy(NULL, 0), codeplug_migrate(NULL, 0)));
+        must(same_validate(codeplug_validate_legacy(NULL, 0, edition), codeplug_migrate(NULL, 0, edition)));
+    must(editions_agree(bytes, codeplug_validate_legacy(bytes, size, CODEPLUG_EDITION_OLDER),
+        codeplug_validate_legacy(bytes, size, CODEPLUG_EDITION_NEWER)));
     for (int round = 0; round < 2; round++) {
         at_start = round == 0;
-        migrated(data);
-        struct codeplug_validate_answer by_new = codeplug_validate(data, size);
+        migrated(bytes);
+        struct codeplug_validate_answer by_new = codeplug_validate(bytes, size, edition);
         if (by_new.number == CODEPLUG_OK)
-            comes_back(data, by_new);
+            comes_back(bytes, by_new);
     }
     return 0;
 }

@@ -1,12 +1,13 @@
 /* Openings and calls out of an input's bytes. */
 #include "plan.h"
 
+#include "edition.h"
 #include "valid_file.h"
 #include "guarded.h"
 #include "record.h"
 
 enum { AGAIN = 15, MOST_AGAIN = 64 };
-enum { HISTORY_GIVEN = 1, FILE_GIVEN = 2, AT_START = 4, FILE_MADE = 8 };
+enum { HISTORY_GIVEN = 1, FILE_GIVEN = 2, AT_START = 4, FILE_MADE = 8, NEWER = 16, CHANGES = 32 };
 
 /* The empty codeplug. */
 static const uint8_t empty[CODEPLUG_HEADER_SIZE] = {'R', 'T', 'X', 'C', [8] = 1};
@@ -22,6 +23,8 @@ struct opening plan_opening(struct input *in)
 {
     uint8_t flags = take_byte(in), spare = take_byte(in), history = take_byte(in);
     struct opening o = {.file = empty, .file_length = sizeof empty, .entries = empty, .at_start = flags & AT_START};
+    o.newer = flags & NEWER;
+    o.changes = flags & CHANGES ? 1 + flags / 64 : 0;
     if (flags & FILE_MADE) {
         o.file = made;
         o.file_length = take_valid_file(in, made);
@@ -91,8 +94,16 @@ static struct call new_call(struct input *in, const uint8_t *room, size_t length
     return c;
 }
 
+/* The edition of the call after those that were made. */
+static uint32_t next_edition(const struct list *list)
+{
+    bool changed = list->changes > 0 && list->made / list->changes % 2 == 1;
+    return edition_number(list->newer != changed, list->made);
+}
+
 bool plan_next(struct list *list, const uint8_t *room, size_t length, size_t used)
 {
+    uint32_t edition = next_edition(list);
     list->bytes += length;
     if (list->made == PLAN_CALLS || list->bytes > PLAN_BYTES || (list->again == 0 && list->in.left == 0))
         return false;
@@ -103,10 +114,11 @@ bool plan_next(struct list *list, const uint8_t *room, size_t length, size_t use
     }
     if (list->again == 0) {
         list->call = new_call(&list->in, room, length, used);
-        return true;
+    } else {
+        list->again--;
+        list->call.length = length;
+        list->call.used = used;
     }
-    list->again--;
-    list->call.length = length;
-    list->call.used = used;
+    list->call.edition = edition;
     return true;
 }

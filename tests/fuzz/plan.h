@@ -14,11 +14,14 @@ struct opening {
     size_t file_length, entries_length;
     size_t room_size, history_size;
     bool at_start;
+    bool newer;     /* the edition of the first call */
+    size_t changes; /* it changes after every so many calls; never where 0 */
 };
 
 /* A call, with the lengths that it states. */
 struct call {
     bool undo;
+    uint32_t edition;
     size_t length, used;
     size_t kind, first, second;
     uint8_t record[PLAN_RECORD];
@@ -32,6 +35,8 @@ struct list {
     size_t made;
     size_t bytes; /* the codeplug's lengths before each call, together */
     size_t again; /* how often it is still to be repeated */
+    bool newer;   /* of the opening */
+    size_t changes;
 };
 
 struct opening plan_opening(struct input *in);

@@ -1,6 +1,7 @@
 /* Records for the edits: valid ones from few bytes, any bytes, and the ones that are there with a byte changed. */
 #include "record.h"
 
+#include "edition.h"
 #include "must.h"
 
 static const size_t size_of[] = {0, 39, 0, 39, 90, 0, 90, 32, 0, 32, 2, 0, 72};
@@ -14,6 +15,23 @@ static uint8_t below(struct input *in, uint8_t most, bool wild)
     return wild ? b : b % most;
 }
 
+/* Form 0: an address near the first callsign, or any number where `wild` is set; 1 and 2: near the first and the last hash address; 3: near
+ * the last callsign. */
+static uint64_t take_address(struct input *in, unsigned form, bool wild)
+{
+    uint64_t n = take_number(in, wild ? 8 : 5);
+    switch (form) {
+    case 1:
+        return FIRST_HASH + n;
+    case 2:
+        return LAST_HASH - n;
+    case 3:
+        return FIRST_HASH - 1 - n;
+    default:
+        return n + !wild;
+    }
+}
+
 struct codeplug_contact_values take_contact(struct input *in, bool wild)
 {
     struct codeplug_contact_values v = {.mode = below(in, 2, wild)};
@@ -23,7 +41,7 @@ struct codeplug_contact_values take_contact(struct input *in, bool wild)
     v.broadcast = flags & 2;
     v.contact_type = below(in, 3, wild);
     v.id = (uint32_t)take_number(in, 4);
-    v.address = take_number(in, wild ? 8 : 5) + !wild;
+    v.address = take_address(in, flags >> 2 & 3, wild);
     return v;
 }
 
@@ -87,7 +105,7 @@ static struct codeplug_channel_info named(struct codeplug_channel_info i, const 
     if (i.mode == CODEPLUG_FM || i.contact == CODEPLUG_NOBODY || length < CODEPLUG_HEADER_SIZE || word(room, 82) == 0)
         return i;
     i.contact %= word(room, 82);
-    i.mode = codeplug_contact_prevalidated(room, length, i.contact, name, sizeof name).values.mode;
+    i.mode = codeplug_contact_prevalidated(room, length, i.contact, name, sizeof name, CODEPLUG_EDITION_NEWER).values.mode;
     return i;
 }
 
@@ -104,7 +122,7 @@ static void valid(struct input *in, const uint8_t *room, size_t length, struct c
     size_t n = take_text(in, name);
     struct codeplug_refusal w = {0, 0};
     if (c->record_length == CODEPLUG_CONTACT_SIZE) {
-        w = codeplug_write_contact(c->record, PLAN_RECORD, name, n, take_contact(in, false));
+        w = codeplug_write_contact(c->record, PLAN_RECORD, name, n, take_contact(in, false), CODEPLUG_EDITION_NEWER);
     } else if (c->record_length == CODEPLUG_CHANNEL_SIZE) {
         struct codeplug_channel_common common = take_common(in, false);
         w = codeplug_write_channel(c->record, PLAN_RECORD, name, n, name, n / 2, common,

@@ -2,10 +2,11 @@
 #include "valid_file.h"
 
 #include "codeplug.h"
+#include "edition.h"
 #include "legacy.h"
 #include "must.h"
 
-enum { CONTACTS = 16, CHANNELS = 32, BANKS = 12, ENTRIES = 40 };
+enum { CONTACTS = 16, CHANNELS = 32, BANKS = 12, ENTRIES = 40, HASH_STEP = 0xF0 };
 
 /* What the records are made of: how much they differ, and the banks' names. */
 struct style {
@@ -26,11 +27,14 @@ static void put(uint8_t *at, size_t n, size_t size)
         at[i] = (uint8_t)(n >> (8 * i));
 }
 
-/* DMR where n is even, M17 where it is odd. */
+/* DMR where n is even, M17 where it is odd. Where the step is one of the largest, every other M17 contact has a hash address. */
 static uint8_t *put_contact(uint8_t *at, size_t n, size_t step)
 {
     struct codeplug_contact_values v = {.mode = 1 + n % 2, .id = (uint32_t)(n * step), .address = 1 + n * step};
-    must(codeplug_write_contact(at, CODEPLUG_CONTACT_SIZE, (const uint8_t *)"contact", 7, v).number == CODEPLUG_OK);
+    if (step >= HASH_STEP && n % 4 == 1)
+        v.address += FIRST_HASH - 1;
+    must(codeplug_write_contact(at, CODEPLUG_CONTACT_SIZE, (const uint8_t *)"contact", 7, v, CODEPLUG_EDITION_NEWER).number
+        == CODEPLUG_OK);
     return at + CODEPLUG_CONTACT_SIZE;
 }
 
@@ -79,19 +83,19 @@ size_t take_valid_file(struct input *in, uint8_t file[VALID_FILE_MOST])
         put(offsets + 4 * n, (size_t)(at - first), 4);
         at = put_bank(at, n, style, entries, channels);
     }
-    must(codeplug_validate(file, (size_t)(at - file)).number == CODEPLUG_OK);
+    must(codeplug_validate(file, (size_t)(at - file), CODEPLUG_EDITION_NEWER).number == CODEPLUG_OK);
     return (size_t)(at - file);
 }
 
 size_t take_legacy_file(struct input *in, uint8_t file[VALID_FILE_MOST])
 {
     size_t length = take_valid_file(in, file), pick = take_byte(in);
-    struct codeplug_validate_answer counts = codeplug_validate(file, length);
+    struct codeplug_validate_answer counts = codeplug_validate(file, length, CODEPLUG_EDITION_NEWER);
     for (size_t n = 0; n < settings_records(counts); n++) {
         size_t at = settings_place(file, counts, n);
         if (at > 0)
             file[at] = legacy_settings[(pick + n) % SETTINGS];
     }
-    must(codeplug_validate_legacy(file, length).number == CODEPLUG_OK);
+    must(codeplug_validate_legacy(file, length, CODEPLUG_EDITION_NEWER).number == CODEPLUG_OK);
     return length;
 }

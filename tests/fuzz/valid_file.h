@@ -1,4 +1,4 @@
-/* A valid codeplug out of a few bytes of an input. */
+/* A codeplug that is valid by the newer edition, and unless it has hash addresses by the older, out of a few bytes of an input. */
 #ifndef FUZZ_VALID_FILE_H
 #define FUZZ_VALID_FILE_H
 

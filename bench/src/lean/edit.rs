@@ -4,7 +4,7 @@ use super::history;
 use super::layout::Layout;
 use super::validate::validate;
 use obcf_second::edit::{Answer, Edit};
-use obcf_second::{Counts, Reason, Refusal};
+use obcf_second::{Counts, Edition, Reason, Refusal};
 
 pub fn edit(
     room: &mut [u8],
@@ -12,10 +12,11 @@ pub fn edit(
     past: &mut [u8],
     used: usize,
     edit: &Edit,
+    edition: Edition,
 ) -> Result<Answer, Refusal> {
-    let (file, counts, ends) = open(room, length, past, used)?;
+    let (file, counts, ends) = open(room, length, past, used, edition)?;
     let new = apply(file, counts, edit)?;
-    validate(&new)?;
+    validate(&new, edition)?;
     refuse_unless(new.len() <= room.len(), Reason::RoomFull)?;
     let entry = history::entry(file, &new);
     refuse_unless(entry.len() <= past.len(), Reason::HistoryFull)?;
@@ -42,11 +43,12 @@ pub fn undo(
     length: usize,
     past: &mut [u8],
     used: usize,
+    edition: Edition,
 ) -> Result<Answer, Refusal> {
-    let (file, _, ends) = open(room, length, past, used)?;
+    let (file, _, ends) = open(room, length, past, used, edition)?;
     let top = *ends.first().ok_or(Refusal::from(Reason::HistoryEmpty))?;
     let restored = taken_back(file, &past[..used])
-        .filter(|restored| restored.len() <= room.len() && validate(restored).is_ok())
+        .filter(|restored| restored.len() <= room.len() && validate(restored, edition).is_ok())
         .ok_or(Refusal::from(Reason::EntryDoesNotFit))?;
 
     past.copy_within(top..used, 0);
@@ -76,11 +78,12 @@ fn open<'a>(
     length: usize,
     past: &[u8],
     used: usize,
+    edition: Edition,
 ) -> Result<(&'a [u8], Counts, Vec<usize>), Refusal> {
     let stated = Refusal::from(Reason::StatedLength);
     let file = room.get(..length).ok_or(stated)?;
     let past = past.get(..used).ok_or(stated)?;
-    let counts = validate(file)?;
+    let counts = validate(file, edition)?;
     Ok((file, counts, history::ends(past)?))
 }
 

@@ -2,10 +2,10 @@
 
 use super::layout::Layout;
 use super::validate::validate_legacy;
-use obcf_second::{Counts, Refusal};
+use obcf_second::{Counts, Edition, Refusal};
 
-pub fn migrate(file: &mut [u8]) -> Result<Counts, Refusal> {
-    let counts = validate_legacy(file)?;
+pub fn migrate(file: &mut [u8], edition: Edition) -> Result<Counts, Refusal> {
+    let counts = validate_legacy(file, edition)?;
     let l = Layout::of(counts);
     let (contacts, rest) = file[l.contact_at(0)..].split_at_mut(39 * l.contacts);
     for contact in contacts.as_chunks_mut::<39>().0 {

@@ -3,7 +3,7 @@
 use super::layout::Layout;
 use super::validate::validate;
 use obcf_second::record::Mode;
-use obcf_second::Refusal;
+use obcf_second::{Edition, Refusal};
 use std::hint::black_box;
 
 #[allow(dead_code)] // read through black_box alone
@@ -154,8 +154,8 @@ fn banks<'a>(file: &'a [u8], l: &Layout) -> impl Iterator<Item = (&'a [u8], &'a 
 }
 
 /// Validates a file and reads each record once.
-pub fn read_all(file: &[u8]) -> Result<(), Refusal> {
-    let l = Layout::of(validate(file)?);
+pub fn read_all(file: &[u8], edition: Edition) -> Result<(), Refusal> {
+    let l = Layout::of(validate(file, edition)?);
     for c in contacts(file, &l) {
         black_box(&contact::<&[u8]>(c));
     }
@@ -172,8 +172,8 @@ pub fn read_all(file: &[u8]) -> Result<(), Refusal> {
 }
 
 /// Validates a file and reads it into lists.
-pub fn lists(file: &[u8]) -> Result<Lists, Refusal> {
-    let l = Layout::of(validate(file)?);
+pub fn lists(file: &[u8], edition: Edition) -> Result<Lists, Refusal> {
+    let l = Layout::of(validate(file, edition)?);
     Ok(Lists {
         contacts: contacts(file, &l).iter().map(contact).collect(),
         channels: channels(file, &l).iter().map(channel).collect(),

@@ -1,21 +1,21 @@
 //! Validating a file without building anything.
 
 use obcf_second::address::Address;
-use obcf_second::{Counts, Refusal, LONGEST};
+use obcf_second::{Counts, Edition, Refusal, LONGEST};
 
 /// The counts of a valid file, or its refusal.
-pub fn validate(file: &[u8]) -> Result<Counts, Refusal> {
-    match counts(file, settings) {
+pub fn validate(file: &[u8], edition: Edition) -> Result<Counts, Refusal> {
+    match counts(file, settings, edition) {
         Some(counts) => Ok(counts),
-        None => obcf_second::codeplug::validate(file),
+        None => obcf_second::codeplug::validate(file, edition),
     }
 }
 
 /// The same by the legacy reading.
-pub fn validate_legacy(file: &[u8]) -> Result<Counts, Refusal> {
-    match counts(file, legacy_settings) {
+pub fn validate_legacy(file: &[u8], edition: Edition) -> Result<Counts, Refusal> {
+    match counts(file, legacy_settings, edition) {
         Some(counts) => Ok(counts),
-        None => obcf_second::legacy::validate_legacy(file),
+        None => obcf_second::legacy::validate_legacy(file, edition),
     }
 }
 
@@ -24,7 +24,7 @@ fn u16_at(bytes: &[u8], at: usize) -> u16 {
 }
 
 /// `settings` is the reading's test of traits and contact settings.
-fn counts(file: &[u8], settings: impl Fn(u8) -> bool) -> Option<Counts> {
+fn counts(file: &[u8], settings: impl Fn(u8) -> bool, edition: Edition) -> Option<Counts> {
     let (header, rest) = file.split_first_chunk::<88>()?;
     let begins = file.len() <= LONGEST && header[..10] == *b"RTXC\0\0\0\0\x01\0";
     if !begins || !text(&header[10..]) || !text(&header[42..]) {
@@ -39,7 +39,7 @@ fn counts(file: &[u8], settings: impl Fn(u8) -> bool) -> Option<Counts> {
     let (channels, rest) = rest.split_at_checked(90 * usize::from(counts.channels))?;
     let (offsets, banks) = rest.split_at_checked(4 * usize::from(counts.banks))?;
     let contacts = contacts.as_chunks::<39>().0;
-    let all = contacts.iter().all(|c| contact(c, &settings))
+    let all = contacts.iter().all(|c| contact(c, &settings, edition))
         && channels
             .as_chunks::<90>()
             .0
@@ -85,11 +85,11 @@ fn legacy_settings(byte: u8) -> bool {
     byte >> 6 <= 2 && byte & 0x1F == 0
 }
 
-fn contact(c: &[u8; 39], settings: impl Fn(u8) -> bool) -> bool {
+fn contact(c: &[u8; 39], settings: impl Fn(u8) -> bool, edition: Edition) -> bool {
     let [address @ .., _, _] = [c[33], c[34], c[35], c[36], c[37], c[38], 0, 0];
     let values = match c[32] {
         1 => settings(c[37]) && c[38] == 0,
-        2 => Address::from_bytes(address).is_some(),
+        2 => Address::from_bytes(address, edition).is_some(),
         _ => false,
     };
     values && text(c)

@@ -30,8 +30,9 @@ extern "C" {
 #endif
 
 /* The version of this header. A library of the same major version, and of this minor version or a later, has every function of it:
- * codeplug_version() tells which one is linked. Files that this library wrote before version 2 are migrated first, see "legacy files". */
-#define CODEPLUG_VERSION_MAJOR 2
+ * codeplug_version() tells which one is linked. Before version 3 no function took an edition: CODEPLUG_EDITION_OLDER answers as they did.
+ * Files that this library wrote before version 2 are migrated first, see "legacy files". */
+#define CODEPLUG_VERSION_MAJOR 3
 #define CODEPLUG_VERSION_MINOR 0
 #define CODEPLUG_VERSION_PATCH 0
 #define CODEPLUG_VERSION_NUMBER (CODEPLUG_VERSION_MAJOR << 16 | CODEPLUG_VERSION_MINOR << 8 | CODEPLUG_VERSION_PATCH)
@@ -47,7 +48,7 @@ enum codeplug_size {
     CODEPLUG_CHANNEL_SIZE = 90,   /* a channel's record */
     CODEPLUG_TEXT_SIZE = 32,      /* a text field */
     CODEPLUG_TEXTS_SIZE = 64,     /* two text fields, one after the other */
-    CODEPLUG_CALLSIGN_SIZE = 9,   /* a callsign's text, padded with zeros */
+    CODEPLUG_CALLSIGN_SIZE = 9,   /* a callsign's text, a hash sign included, padded with zeros */
     CODEPLUG_BANK_ENTRY_SIZE = 2, /* a channel index, low byte first, as edit 10 carries it */
     CODEPLUG_SET_HEADER_SIZE = 72 /* author, description and timestamp, as edit 12 carries them */
 };
@@ -57,7 +58,10 @@ enum codeplug_size {
  * that a program can list the refusals or put them into words of its own.
  *
  * The place of 1 to 12 is the offset of the first byte of the bad field: in the file; from a writer, in the record; where an edit's result
- * is refused, in that result. The place of 21 is the character's position. Any other place is 0. */
+ * is refused, in that result. The place of 21 is the character's position. Any other place is 0.
+ *
+ * 8, 21 and 23 follow the edition (enum codeplug_edition): by the newer one a hash address is a callsign's, and a hash sign may be a
+ * callsign's first character. */
 #define CODEPLUG_REFUSALS(REFUSAL) \
     REFUSAL(TOO_LONG, 1, "the file is longer than 1,048,576 bytes") \
     REFUSAL(CUT, 2, "the file ends inside a field") \
@@ -72,7 +76,7 @@ enum codeplug_size {
     REFUSAL(BANK_ENTRY, 11, "a bank names a channel that is not there") \
     REFUSAL(TRAILING, 12, "there are bytes after the last bank") \
     REFUSAL(CALLSIGN_LENGTH, 20, "a callsign has no character, or more than nine") \
-    REFUSAL(CALLSIGN_FOREIGN, 21, "a callsign holds a character that no callsign may hold") \
+    REFUSAL(CALLSIGN_FOREIGN, 21, "a callsign holds a character that may not stand there") \
     REFUSAL(CALLSIGN_SPACE, 22, "a callsign ends in a space") \
     REFUSAL(ADDRESS_NUMBER, 23, "a number is neither a callsign's nor broadcast") \
     REFUSAL(CALLSIGN_BUFFER, 24, "a callsign's buffer is shorter than nine bytes") \
@@ -156,6 +160,29 @@ enum codeplug_edit_kind {
     CODEPLUG_SET_HEADER = 12
 };
 
+/* Editions of M17 addresses. By both of them the numbers 1 to 262,143,999,999,999 are callsigns of 1 to 9 characters, and
+ * 0xFFFFFFFFFFFF is broadcast. The newer one has hash addresses besides: 262,144,000,000,000 to 268,697,599,999,999 are a hash sign and
+ * then the text, of at most eight characters, of the number less 262,144,000,000,000; 262,144,000,000,000 itself is the hash sign alone.
+ * Where this header says callsign, that is by the newer edition a hash address too. By either edition texts and numbers map one to one, and
+ * what is good by both is the same by both: a number has one text, a text one number.
+ *
+ * The edition is the last parameter of every function that sees an address: codeplug_validate, codeplug_header, codeplug_contact,
+ * codeplug_channel, codeplug_bank, codeplug_bank_entry, codeplug_contact_prevalidated, codeplug_validate_legacy, codeplug_migrate,
+ * codeplug_write_contact, codeplug_encode_callsign, codeplug_decode_address, codeplug_edit and codeplug_undo. All others answer alike by
+ * both.
+ *
+ * Use one edition throughout with a codeplug and its history. Nothing in a file says which. Every file that the older edition accepts the
+ * newer accepts too, and reads alike; they answer a file otherwise only where the older refuses it, 8. So a program may go over to the
+ * newer edition with all its files and histories. A file that the newer accepts is accepted by the older exactly where it holds no hash
+ * address; and a history that was written under the newer may hold some, so that undo by the older may be refused, 8 for the file as it is
+ * or 39 for what undo would bring back.
+ *
+ * Every number has an answer: CODEPLUG_EDITION_NEWER is the newer edition, any other number the older. */
+enum codeplug_edition {
+    CODEPLUG_EDITION_OLDER = 0,
+    CODEPLUG_EDITION_NEWER = 1
+};
+
 /* Modes of channels and contacts; a contact is never FM. */
 enum codeplug_mode { CODEPLUG_FM = 0, CODEPLUG_DMR = 1, CODEPLUG_M17 = 2 };
 
@@ -191,7 +218,7 @@ struct codeplug_header_answer {
 /* A contact but for its name. Mode 1, DMR: id, contact_type and rx_tone. Mode 2, M17: address and broadcast; beside broadcast a reader
  * answers address 0xFFFFFFFFFFFF, and a writer ignores it. A reader answers 0 for the other mode's numbers, a writer ignores them. */
 struct codeplug_contact_values {
-    uint64_t address;     /* 1 to 262,143,999,999,999 */
+    uint64_t address;     /* 1 to 262,143,999,999,999; by the newer edition to 268,697,599,999,999 */
     uint32_t id;          /* any */
     uint8_t mode;         /* 1 or 2 */
     uint8_t contact_type; /* 0 group, 1 private, 2 all call */
@@ -297,33 +324,38 @@ struct codeplug_history_answer {
  * before all others, if it is too short. */
 
 /* Whether a file is accepted, and its counts. */
-struct codeplug_validate_answer codeplug_validate(const uint8_t *file, size_t file_length);
+struct codeplug_validate_answer codeplug_validate(const uint8_t *file, size_t file_length, uint32_t edition);
 
 /* The header. The author goes into the first 32 bytes of texts, the description into the next 32; later bytes stay. 25 where texts_length
  * is under 64. Each call validates the whole file: where only the counts are wanted, codeplug_validate has answered them. */
-struct codeplug_header_answer codeplug_header(const uint8_t *file, size_t file_length, uint8_t *texts, size_t texts_length);
+struct codeplug_header_answer codeplug_header(const uint8_t *file, size_t file_length, uint8_t *texts, size_t texts_length,
+    uint32_t edition);
 
 /* Contact n. Its name goes into the first 32 bytes of name; later bytes stay. 25 where name_length is under 32. */
-struct codeplug_contact_answer codeplug_contact(const uint8_t *file, size_t file_length, size_t n, uint8_t *name, size_t name_length);
+struct codeplug_contact_answer codeplug_contact(const uint8_t *file, size_t file_length, size_t n, uint8_t *name, size_t name_length,
+    uint32_t edition);
 
 /* Channel n. The name goes into the first 32 bytes of texts, the description into the next 32; later bytes stay. 25 where texts_length is
  * under 64. */
-struct codeplug_channel_answer codeplug_channel(const uint8_t *file, size_t file_length, size_t n, uint8_t *texts, size_t texts_length);
+struct codeplug_channel_answer codeplug_channel(const uint8_t *file, size_t file_length, size_t n, uint8_t *texts, size_t texts_length,
+    uint32_t edition);
 
 /* Bank n: how many entries it has. Its name goes into the first 32 bytes of name; later bytes stay. 25 where name_length is under 32. */
-struct codeplug_bank_answer codeplug_bank(const uint8_t *file, size_t file_length, size_t n, uint8_t *name, size_t name_length);
+struct codeplug_bank_answer codeplug_bank(const uint8_t *file, size_t file_length, size_t n, uint8_t *name, size_t name_length,
+    uint32_t edition);
 
 /* Entry i of a bank. Begin with 0 and go on with `next` while it is not refused: 33 at the end. Each call validates the whole file: in a
  * loop, validate it once and call codeplug_bank_entry_prevalidated. */
-struct codeplug_bank_entry_answer codeplug_bank_entry(const uint8_t *file, size_t file_length, size_t bank, size_t i);
+struct codeplug_bank_entry_answer codeplug_bank_entry(const uint8_t *file, size_t file_length, size_t bank, size_t i, uint32_t edition);
 
 /* The same, of a file that codeplug_validate accepted, without validating it again: quicker, where many records are read. Of any other
  * bytes they answer too: 25, 33 by the header's count, then the record's own first bad field (a bank: its offset, name and entry count; an
  * entry: 33 alone). Whether a channel's contact is there and of its mode is looked up in the file's contacts here too: 9. A bank is read
  * where its offset says, which is not compared with where it should be, and an entry's channel is not looked up: never 10, nor 11. So the
- * place of a refusal may lie past the end of the file. */
+ * place of a refusal may lie past the end of the file. Of the four only a contact's reader sees an address, and so only it takes an
+ * edition: the one that the file was validated by. */
 struct codeplug_contact_answer codeplug_contact_prevalidated(const uint8_t *file, size_t file_length, size_t n, uint8_t *name,
-    size_t name_length);
+    size_t name_length, uint32_t edition);
 struct codeplug_channel_answer codeplug_channel_prevalidated(const uint8_t *file, size_t file_length, size_t n, uint8_t *texts,
     size_t texts_length);
 struct codeplug_bank_answer codeplug_bank_prevalidated(const uint8_t *file, size_t file_length, size_t n, uint8_t *name,
@@ -339,26 +371,27 @@ struct codeplug_bank_entry_answer codeplug_bank_entry_prevalidated(const uint8_t
  * migrating: its entries hold legacy bytes, so undo may be refused, 39, or bring back a wrong file. Files alone are migrated, not records
  * that were stored by themselves.
  *
- * Nothing in a file says how it was written. To find out, validate it by both readings; bindings/c/migrate.c is an example. Accepted
+ * Nothing in a file says how it was written. To find out, validate it by both readings, with one edition; bindings/c/migrate.c is an
+ * example. Accepted
  * - by codeplug_validate_legacy alone: a legacy file, to be migrated;
  * - by codeplug_validate alone: not a legacy file, and nothing is to be done;
  * - by both: all traits and settings are 0 and read the same either way, so nothing is to be done, and migrating changes no byte;
- * - by neither: the file is damaged, or is no codeplug.
+ * - by neither: the file is damaged, is no codeplug, or holds a hash address and the edition is the older.
  * So migrating twice is refused, 7, or changes nothing. */
 
 /* Whether a file is accepted by the legacy reading, and its counts. Refusals: those of the file, 1 to 12, by that reading. */
-struct codeplug_validate_answer codeplug_validate_legacy(const uint8_t *file, size_t file_length);
+struct codeplug_validate_answer codeplug_validate_legacy(const uint8_t *file, size_t file_length, uint32_t edition);
 
 /* The same answer, and an accepted file is migrated in place: traits and settings change, so that every field reads by the new reading as
  * it did by the legacy one; every other byte stays. A refused file is not touched. Of a codeplug in a room, file_length is the codeplug's
  * own length, without the spare bytes. */
-struct codeplug_validate_answer codeplug_migrate(uint8_t *file, size_t file_length);
+struct codeplug_validate_answer codeplug_migrate(uint8_t *file, size_t file_length, uint32_t edition);
 
 /* ---- writing what the edits carry: 25 first, then the fields in the record's order */
 
 /* A contact's record into the first 39 bytes of out; later bytes stay. Refusals: 25, 5 at 0, 6 at 32, 8 at 33 or 7 at 37. */
 struct codeplug_refusal codeplug_write_contact(uint8_t *out, size_t out_length, const uint8_t *name, size_t name_length,
-    struct codeplug_contact_values values);
+    struct codeplug_contact_values values, uint32_t edition);
 
 /* A channel's record into the first 90 bytes of out; later bytes stay. Refusals: 25, 6 at 0, then 7 and 5 by field. Whether the contact is
  * there, only the file can say. */
@@ -374,12 +407,13 @@ struct codeplug_refusal codeplug_write_empty(uint8_t *out, size_t out_length);
 
 /* ---- M17 addresses and tones */
 
-/* A callsign's number. Refusals: 20, 21, 22. */
-struct codeplug_encode_answer codeplug_encode_callsign(const uint8_t *text, size_t text_length);
+/* A callsign's number. Refusals: 20, 21, 22. A hash sign counts as a character; by the newer edition it is refused, 21, where it does not
+ * stand first, by the older one wherever it stands. */
+struct codeplug_encode_answer codeplug_encode_callsign(const uint8_t *text, size_t text_length, uint32_t edition);
 
 /* A number's callsign, padded with zeros, into the first 9 bytes of out; later bytes stay, and all where it is broadcast. Refusals: 24,
  * 23. */
-struct codeplug_decode_answer codeplug_decode_address(uint64_t address, uint8_t *out, size_t out_length);
+struct codeplug_decode_answer codeplug_decode_address(uint64_t address, uint8_t *out, size_t out_length, uint32_t edition);
 
 /* The frequency of tone 0 to 49, in tenths of a hertz; CODEPLUG_NO_FREQUENCY past the table. */
 uint16_t codeplug_tone_frequency(uint8_t index);
@@ -397,12 +431,12 @@ uint8_t codeplug_tone_index(uint16_t tenths);
 
 /* Makes an edit: its kind, two places and a record. Refusals: 30, the codeplug's own, 31, 32, 33, 34, 35, the result's own, 36, 37. */
 struct codeplug_edit_answer codeplug_edit(uint8_t *room, size_t room_size, size_t length, uint8_t *history, size_t history_size,
-    size_t used, size_t kind, size_t first, size_t second, const uint8_t *record, size_t record_length);
+    size_t used, size_t kind, size_t first, size_t second, const uint8_t *record, size_t record_length, uint32_t edition);
 
-/* Takes the last edit back. Refusals: 30, the codeplug's own, 31, 38, 39. 39 also where the result does not fit the room: for whoever loads
- * codeplug and history from a disk, a room of `length` + `used` bytes is enough. */
+/* Takes the last edit back. Refusals: 30, the codeplug's own, 31, 38, 39. 39 also where the edition refuses what undo would bring back, or
+ * the result does not fit the room: for whoever loads codeplug and history from a disk, a room of `length` + `used` bytes is enough. */
 struct codeplug_edit_answer codeplug_undo(uint8_t *room, size_t room_size, size_t length, uint8_t *history, size_t history_size,
-    size_t used);
+    size_t used, uint32_t edition);
 
 /* How many entries a history of `used` bytes holds: for whoever loads it from a disk. Refusal: 31. */
 struct codeplug_history_answer codeplug_history_entries(const uint8_t *history, size_t used);

@@ -1,6 +1,6 @@
 //! Does what bindings/c/example.c does: opens a codeplug, prints its counts, its last M17 contact and first channel, changes the channel's
 //! tone and the contact, undoes the last, writes the file and validates it again: edit IN OUT.
-use codeplug::{Address, Codeplug, ContactInfo, EditAnswer, Info, Refused, Tone, FILE_MAX};
+use codeplug::{Address, Codeplug, ContactInfo, EditAnswer, Edition, Info, Refused, Tone, FILE_MAX};
 use std::{env, error::Error, fs, process::exit};
 
 fn print_counts(codeplug: &Codeplug) {
@@ -13,7 +13,7 @@ fn print_contact(codeplug: &Codeplug, n: usize) -> Result<(), Refused> {
     match contact.info {
         ContactInfo::Dmr { id, .. } => println!("contact {n}: \"{}\" DMR id {id}", contact.name),
         ContactInfo::M17(address) => {
-            println!("contact {n}: \"{}\" M17 {}", contact.name, address.callsign()?.unwrap_or("broadcast".into()))
+            println!("contact {n}: \"{}\" M17 {}", contact.name, address.callsign(codeplug.edition())?.unwrap_or("broadcast".into()))
         }
     }
     Ok(())
@@ -56,7 +56,7 @@ fn set_tone(codeplug: &mut Codeplug, n: usize, tenths: u16) -> Result<(), Box<dy
 
 fn set_callsign(codeplug: &mut Codeplug, n: usize, callsign: &str) -> Result<(), Refused> {
     let mut contact = codeplug.contact(n)?;
-    contact.info = ContactInfo::M17(Address::of_callsign(callsign)?);
+    contact.info = ContactInfo::M17(Address::of_callsign(callsign, codeplug.edition())?);
     print_edited("contact changed", codeplug.replace_contact(n, &contact)?);
     Ok(())
 }
@@ -69,7 +69,7 @@ fn last_m17_contact(codeplug: &Codeplug) -> usize {
 }
 
 fn run(from: &str, to: &str) -> Result<(), Box<dyn Error>> {
-    let mut codeplug = Codeplug::open(&fs::read(from)?, 65_536, FILE_MAX + 9)?;
+    let mut codeplug = Codeplug::open(&fs::read(from)?, 65_536, FILE_MAX + 9, Edition::Older)?;
     print_counts(&codeplug);
     if let Err(refused) = codeplug.undo() {
         println!("undo: {refused}");
@@ -86,7 +86,7 @@ fn run(from: &str, to: &str) -> Result<(), Box<dyn Error>> {
     print_channel(&codeplug, 0)?;
     print_counts(&codeplug);
     fs::write(to, codeplug.bytes())?;
-    let again = Codeplug::open(&fs::read(to)?, 0, 0)?;
+    let again = Codeplug::open(&fs::read(to)?, 0, 0, Edition::Older)?;
     print_counts(&again);
     print_channel(&again, 0)?;
     Ok(())

@@ -3,7 +3,7 @@
 //! nothing. Exits with 0; with 1 where IN is refused; with 2 where it is asked wrongly or a file cannot be read or written.
 //!
 //! Where the history of a legacy file was stored beside it, throw it away: it is not the migrated file's.
-use codeplug::{migrate, validate, validate_legacy, Counts, Refused};
+use codeplug::{migrate, validate, validate_legacy, Counts, Edition, Refused};
 use std::{env, error::Error, fs, process::exit};
 
 /// Prints the answer.
@@ -18,8 +18,8 @@ fn accepted(what: &str, answer: Result<Counts, Refused>) -> bool {
 /// Whether IN is accepted, by either reading.
 fn run(from: &str, to: &str) -> Result<bool, Box<dyn Error>> {
     let mut file = fs::read(from)?;
-    let by_new = accepted("new reading", validate(&file));
-    let by_legacy = accepted("legacy reading", validate_legacy(&file));
+    let by_new = accepted("new reading", validate(&file, Edition::Older));
+    let by_legacy = accepted("legacy reading", validate_legacy(&file, Edition::Older));
     if by_new {
         println!("{}: nothing to migrate", if by_legacy { "the same by both readings" } else { "not a legacy file" });
         return Ok(true);
@@ -28,9 +28,9 @@ fn run(from: &str, to: &str) -> Result<bool, Box<dyn Error>> {
         println!("refused by both readings");
         return Ok(false);
     }
-    accepted("a legacy file, migrated", migrate(&mut file));
+    accepted("a legacy file, migrated", migrate(&mut file, Edition::Older));
     fs::write(to, &file)?;
-    Ok(accepted("new reading", validate(&fs::read(to)?)))
+    Ok(accepted("new reading", validate(&fs::read(to)?, Edition::Older)))
 }
 
 fn main() {

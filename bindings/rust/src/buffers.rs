@@ -2,9 +2,9 @@
 //! holds what undo needs in its first `used` bytes, at the start none. A refused call changes neither.
 //!
 //! Where the history is full, the oldest entries are dropped. An edit whose own entry is longer than the history is refused, 37: an
-//! insertion or removal may need as much as the file's length and 9 bytes.
+//! insertion or removal may need as much as the file's length and 9 bytes. One edition is used throughout with both.
 use crate::refused::accepted;
-use crate::{c, Refused};
+use crate::{c, Edition, Refused};
 
 /// The edits, with the two places and the record that each takes. An unused place is 0, else 33; an unused record is empty,
 /// else 32.
@@ -59,6 +59,7 @@ pub fn edit(
     first: usize,
     second: usize,
     record: &[u8],
+    edition: Edition,
 ) -> Result<EditAnswer, Refused> {
     edit_answer(unsafe {
         c::codeplug_edit(
@@ -73,13 +74,17 @@ pub fn edit(
             second,
             record.as_ptr(),
             record.len(),
+            edition.number(),
         )
     })
 }
 
 /// Takes the last edit back. Refusals: 30, the codeplug's own, 31, 38, 39.
-pub fn undo(room: &mut [u8], length: usize, history: &mut [u8], used: usize) -> Result<EditAnswer, Refused> {
-    edit_answer(unsafe { c::codeplug_undo(room.as_mut_ptr(), room.len(), length, history.as_mut_ptr(), history.len(), used) })
+pub fn undo(room: &mut [u8], length: usize, history: &mut [u8], used: usize, edition: Edition) -> Result<EditAnswer, Refused> {
+    let (room_size, history_size) = (room.len(), history.len());
+    edit_answer(unsafe {
+        c::codeplug_undo(room.as_mut_ptr(), room_size, length, history.as_mut_ptr(), history_size, used, edition.number())
+    })
 }
 
 /// How many entries a stored history holds: how many edits can be undone. Refusal: 31.

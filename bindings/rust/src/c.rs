@@ -56,14 +56,34 @@ structures! {
 
 extern "C" {
     pub fn codeplug_version() -> u32;
-    pub fn codeplug_validate(file: *const u8, file_length: usize) -> ValidateAnswer;
-    pub fn codeplug_header(file: *const u8, file_length: usize, texts: *mut u8, texts_length: usize) -> HeaderAnswer;
-    pub fn codeplug_contact(file: *const u8, file_length: usize, n: usize, name: *mut u8, name_length: usize) -> ContactAnswer;
-    pub fn codeplug_channel(file: *const u8, file_length: usize, n: usize, texts: *mut u8, texts_length: usize) -> ChannelAnswer;
-    pub fn codeplug_bank(file: *const u8, file_length: usize, n: usize, name: *mut u8, name_length: usize) -> BankAnswer;
-    pub fn codeplug_bank_entry(file: *const u8, file_length: usize, bank: usize, i: usize) -> BankEntryAnswer;
-    pub fn codeplug_contact_prevalidated(file: *const u8, file_length: usize, n: usize, name: *mut u8, name_length: usize)
-        -> ContactAnswer;
+    pub fn codeplug_validate(file: *const u8, file_length: usize, edition: u32) -> ValidateAnswer;
+    pub fn codeplug_header(file: *const u8, file_length: usize, texts: *mut u8, texts_length: usize, edition: u32) -> HeaderAnswer;
+    pub fn codeplug_contact(
+        file: *const u8,
+        file_length: usize,
+        n: usize,
+        name: *mut u8,
+        name_length: usize,
+        edition: u32,
+    ) -> ContactAnswer;
+    pub fn codeplug_channel(
+        file: *const u8,
+        file_length: usize,
+        n: usize,
+        texts: *mut u8,
+        texts_length: usize,
+        edition: u32,
+    ) -> ChannelAnswer;
+    pub fn codeplug_bank(file: *const u8, file_length: usize, n: usize, name: *mut u8, name_length: usize, edition: u32) -> BankAnswer;
+    pub fn codeplug_bank_entry(file: *const u8, file_length: usize, bank: usize, i: usize, edition: u32) -> BankEntryAnswer;
+    pub fn codeplug_contact_prevalidated(
+        file: *const u8,
+        file_length: usize,
+        n: usize,
+        name: *mut u8,
+        name_length: usize,
+        edition: u32,
+    ) -> ContactAnswer;
     pub fn codeplug_channel_prevalidated(
         file: *const u8,
         file_length: usize,
@@ -73,9 +93,16 @@ extern "C" {
     ) -> ChannelAnswer;
     pub fn codeplug_bank_prevalidated(file: *const u8, file_length: usize, n: usize, name: *mut u8, name_length: usize) -> BankAnswer;
     pub fn codeplug_bank_entry_prevalidated(file: *const u8, file_length: usize, bank: usize, i: usize) -> BankEntryAnswer;
-    pub fn codeplug_validate_legacy(file: *const u8, file_length: usize) -> ValidateAnswer;
-    pub fn codeplug_migrate(file: *mut u8, file_length: usize) -> ValidateAnswer;
-    pub fn codeplug_write_contact(out: *mut u8, out_length: usize, name: *const u8, name_length: usize, values: ContactValues) -> Refusal;
+    pub fn codeplug_validate_legacy(file: *const u8, file_length: usize, edition: u32) -> ValidateAnswer;
+    pub fn codeplug_migrate(file: *mut u8, file_length: usize, edition: u32) -> ValidateAnswer;
+    pub fn codeplug_write_contact(
+        out: *mut u8,
+        out_length: usize,
+        name: *const u8,
+        name_length: usize,
+        values: ContactValues,
+        edition: u32,
+    ) -> Refusal;
     pub fn codeplug_write_channel(
         out: *mut u8,
         out_length: usize,
@@ -88,8 +115,8 @@ extern "C" {
     ) -> Refusal;
     pub fn codeplug_write_text(out: *mut u8, out_length: usize, text: *const u8, text_length: usize) -> Refusal;
     pub fn codeplug_write_empty(out: *mut u8, out_length: usize) -> Refusal;
-    pub fn codeplug_encode_callsign(text: *const u8, text_length: usize) -> EncodeAnswer;
-    pub fn codeplug_decode_address(address: u64, out: *mut u8, out_length: usize) -> DecodeAnswer;
+    pub fn codeplug_encode_callsign(text: *const u8, text_length: usize, edition: u32) -> EncodeAnswer;
+    pub fn codeplug_decode_address(address: u64, out: *mut u8, out_length: usize, edition: u32) -> DecodeAnswer;
     pub fn codeplug_tone_frequency(index: u8) -> u16;
     pub fn codeplug_tone_index(tenths: u16) -> u8;
     pub fn codeplug_edit(
@@ -104,8 +131,17 @@ extern "C" {
         second: usize,
         record: *const u8,
         record_length: usize,
+        edition: u32,
     ) -> EditAnswer;
-    pub fn codeplug_undo(room: *mut u8, room_size: usize, length: usize, history: *mut u8, history_size: usize, used: usize) -> EditAnswer;
+    pub fn codeplug_undo(
+        room: *mut u8,
+        room_size: usize,
+        length: usize,
+        history: *mut u8,
+        history_size: usize,
+        used: usize,
+        edition: u32,
+    ) -> EditAnswer;
     pub fn codeplug_history_entries(history: *const u8, used: usize) -> HistoryAnswer;
 }
 

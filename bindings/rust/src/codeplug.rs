@@ -1,10 +1,10 @@
 //! A codeplug with its history.
 use crate::{buffers, prevalidated, read, write_channel, write_contact, write_empty, write_text, FILE_MAX, TEXT_SIZE};
-use crate::{Bank, Channel, Contact, Counts, EditAnswer, EditKind, Header, Refused};
+use crate::{Bank, Channel, Contact, Counts, EditAnswer, EditKind, Edition, Header, Refused};
 
 /// A codeplug that is open for reading and editing, with what undo needs. What it holds is always an accepted file, so `contact`,
 /// `channel`, `bank` and `entries` read it without validating it. Opening it, `header`, `counts`, each edit and `undo` validate the whole
-/// file. A refused call changes nothing.
+/// file. A refused call changes nothing. It is read and edited by the edition that it was opened with.
 #[derive(Clone, Debug)]
 pub struct Codeplug {
     room: Vec<u8>,
@@ -12,6 +12,7 @@ pub struct Codeplug {
     history: Vec<u8>,
     used: usize,
     entries: usize,
+    edition: Edition,
 }
 
 impl Codeplug {
@@ -19,27 +20,28 @@ impl Codeplug {
     /// full, the oldest edits can no longer be undone. An edit whose own entry is longer than the history is refused, 37: an insertion or
     /// removal may need as much as the file's length and 9 bytes. Refusals: the file's, 1 to 12. A legacy file is
     /// [migrated](crate::migrate) first.
-    pub fn open(file: &[u8], spare: usize, history_size: usize) -> Result<Codeplug, Refused> {
-        Codeplug::restore(file, &[], spare, history_size)
+    pub fn open(file: &[u8], spare: usize, history_size: usize, edition: Edition) -> Result<Codeplug, Refused> {
+        Codeplug::restore(file, &[], spare, history_size, edition)
     }
 
     /// The empty codeplug, opened in the same way.
-    pub fn empty(spare: usize, history_size: usize) -> Codeplug {
-        Codeplug::open(&write_empty(), spare, history_size).expect("the empty codeplug is an accepted file")
+    pub fn empty(spare: usize, history_size: usize, edition: Edition) -> Codeplug {
+        Codeplug::open(&write_empty(), spare, history_size, edition).expect("the empty codeplug is an accepted file")
     }
 
     /// Opens a file with the history that was stored beside it, so that its edits can be undone. There are at least as many spare bytes as
     /// undo may need, and the history is at least as long as the one stored. Refusals: the file's, 31. Whether an entry fits the codeplug,
-    /// only `undo` finds out, 39. The history of a legacy file is not that of the file it is [migrated](crate::migrate) to.
-    pub fn restore(file: &[u8], history: &[u8], spare: usize, history_size: usize) -> Result<Codeplug, Refused> {
-        read::validate(file)?;
+    /// only `undo` finds out, 39: so it is where the history was written under the newer edition and holds a hash address, and the codeplug is
+    /// restored by the older. The history of a legacy file is not that of the file it is [migrated](crate::migrate) to.
+    pub fn restore(file: &[u8], history: &[u8], spare: usize, history_size: usize, edition: Edition) -> Result<Codeplug, Refused> {
+        read::validate(file, edition)?;
         let entries = buffers::history_entries(history)?;
         let (length, used) = (file.len(), history.len());
         let (mut room, mut history) = (file.to_vec(), history.to_vec());
         // Undo brings back bytes of the history, so never more than those.
         room.resize(length.saturating_add(spare.max(used)).min(FILE_MAX), 0);
         history.resize(used.max(history_size), 0);
-        Ok(Codeplug { room, length, history, used, entries })
+        Ok(Codeplug { room, length, history, used, entries, edition })
     }
 
     /// The codeplug as a file.
@@ -50,6 +52,11 @@ impl Codeplug {
     /// What undo needs, to be stored beside the file: `restore` takes both.
     pub fn history(&self) -> &[u8] {
         &self.history[..self.used]
+    }
+
+    /// The edition that it was opened with.
+    pub fn edition(&self) -> Edition {
+        self.edition
     }
 
     /// How many edits can be undone.
@@ -64,12 +71,12 @@ impl Codeplug {
 
     /// Validates the whole file.
     pub fn header(&self) -> Header {
-        read::header(self.bytes()).expect("an open codeplug is an accepted file")
+        read::header(self.bytes(), self.edition).expect("an open codeplug is an accepted file")
     }
 
     /// Contact n. Refusal: 33.
     pub fn contact(&self, n: usize) -> Result<Contact, Refused> {
-        prevalidated::contact(self.bytes(), n)
+        prevalidated::contact(self.bytes(), n, self.edition)
     }
 
     /// Channel n. Refusal: 33.
@@ -93,7 +100,7 @@ impl Codeplug {
 impl Codeplug {
     /// At a place up to the count. Channels go on naming the same contacts, whose numbers move.
     pub fn insert_contact(&mut self, place: usize, contact: &Contact) -> Result<EditAnswer, Refused> {
-        self.edit(EditKind::InsertContact, place, 0, &write_contact(contact)?)
+        self.edit(EditKind::InsertContact, place, 0, &write_contact(contact, self.edition)?)
     }
 
     /// 35 where a channel names it. Channels go on naming the same contacts, whose numbers move.
@@ -102,7 +109,7 @@ impl Codeplug {
     }
 
     pub fn replace_contact(&mut self, n: usize, contact: &Contact) -> Result<EditAnswer, Refused> {
-        self.edit(EditKind::ReplaceContact, n, 0, &write_contact(contact)?)
+        self.edit(EditKind::ReplaceContact, n, 0, &write_contact(contact, self.edition)?)
     }
 
     /// At a place up to the count. Banks go on naming the same channels, whose numbers move.
@@ -149,14 +156,15 @@ impl Codeplug {
         self.edit(EditKind::SetHeader, 0, 0, &[&author[..], &description, &timestamp.to_le_bytes()].concat())
     }
 
-    /// Takes the last edit back. Refusals: 38, and 39 where a history was restored that is not the codeplug's.
+    /// Takes the last edit back. Refusals: 38, and 39 where a history was restored that is not the codeplug's, or not the edition's.
     pub fn undo(&mut self) -> Result<EditAnswer, Refused> {
-        let answer = buffers::undo(&mut self.room, self.length, &mut self.history, self.used)?;
+        let answer = buffers::undo(&mut self.room, self.length, &mut self.history, self.used, self.edition)?;
         Ok(self.take(answer))
     }
 
     fn edit(&mut self, kind: EditKind, first: usize, second: usize, record: &[u8]) -> Result<EditAnswer, Refused> {
-        let answer = buffers::edit(&mut self.room, self.length, &mut self.history, self.used, kind, first, second, record)?;
+        let (room, history) = (&mut self.room, &mut self.history);
+        let answer = buffers::edit(room, self.length, history, self.used, kind, first, second, record, self.edition)?;
         Ok(self.take(answer))
     }
 

@@ -1,7 +1,7 @@
 //! Contacts.
 use crate::c::{self, ContactValues};
 use crate::refused::accepted;
-use crate::{text, Address, Refused, CONTACT_SIZE};
+use crate::{text, Address, Edition, Refused, CONTACT_SIZE};
 
 #[derive(Clone, Debug, PartialEq, Eq)]
 pub struct Contact {
@@ -43,9 +43,10 @@ fn values_of(info: ContactInfo) -> ContactValues {
 }
 
 /// A contact's record. Refusals: 5 at 0, 8 at 33 or 7 at 37.
-pub fn write_contact(contact: &Contact) -> Result<[u8; CONTACT_SIZE], Refused> {
+pub fn write_contact(contact: &Contact, edition: Edition) -> Result<[u8; CONTACT_SIZE], Refused> {
     let mut out = [0; CONTACT_SIZE];
     let name = contact.name.as_bytes();
-    let a = unsafe { c::codeplug_write_contact(out.as_mut_ptr(), out.len(), name.as_ptr(), name.len(), values_of(contact.info)) };
+    let (values, edition) = (values_of(contact.info), edition.number());
+    let a = unsafe { c::codeplug_write_contact(out.as_mut_ptr(), out.len(), name.as_ptr(), name.len(), values, edition) };
     accepted(a.number, a.place, out)
 }

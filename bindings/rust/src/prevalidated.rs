@@ -2,14 +2,15 @@
 //! other bytes these answer too: 33 by the header's count, then the record's own first bad field (a bank: its offset, name and entry count;
 //! an entry: 33 alone). Whether a channel's contact is there and of its mode is looked up in the file's contacts here too: 9. A bank is
 //! read where its offset says, which is not compared with where it should be, and an entry's channel is not looked up: never 10, nor 11. So
-//! the place of a refusal may lie past the end of the file.
+//! the place of a refusal may lie past the end of the file. Only a contact's reader sees an address, and so only it takes an edition: the
+//! one that the file was validated by.
 use crate::refused::accepted;
-use crate::{c, text, Bank, Channel, Contact, Entry, Refused, TEXTS_SIZE, TEXT_SIZE};
+use crate::{c, text, Bank, Channel, Contact, Edition, Entry, Refused, TEXTS_SIZE, TEXT_SIZE};
 
 /// Contact n.
-pub fn contact(file: &[u8], n: usize) -> Result<Contact, Refused> {
+pub fn contact(file: &[u8], n: usize, edition: Edition) -> Result<Contact, Refused> {
     let mut name = [0; TEXT_SIZE];
-    let a = unsafe { c::codeplug_contact_prevalidated(file.as_ptr(), file.len(), n, name.as_mut_ptr(), name.len()) };
+    let a = unsafe { c::codeplug_contact_prevalidated(file.as_ptr(), file.len(), n, name.as_mut_ptr(), name.len(), edition.number()) };
     accepted(a.number, a.place, Contact::from_c(&name, a.values))
 }
 

@@ -28,7 +28,7 @@ impl Refused {
             11 => "a bank names a channel that is not there",
             12 => "there are bytes after the last bank",
             20 => "a callsign has no character, or more than nine",
-            21 => "a callsign holds a character that no callsign may hold",
+            21 => "a callsign holds a character that may not stand there",
             22 => "a callsign ends in a space",
             23 => "a number is neither a callsign's nor broadcast",
             24 => "a callsign's buffer is shorter than nine bytes",

@@ -144,14 +144,14 @@ fn insert_entry() {
 /// A bank of 65,535 entries takes no more.
 #[test]
 fn insert_entry_into_a_full_bank() {
-    let mut codeplug = Codeplug::open(&sample("empty"), 1000, 1000).unwrap();
+    let mut codeplug = Codeplug::open(&sample("empty"), 1000, 1000, OLDER).unwrap();
     codeplug.insert_channel(0, &fm("Only")).unwrap();
     codeplug.insert_bank(0, "Full").unwrap();
     let mut file = codeplug.bytes().to_vec();
     let count = file.len() - 2;
     file[count..].fill(255);
     file.resize(file.len() + 2 * 65_535, 0);
-    let mut codeplug = Codeplug::open(&file, 1000, 1000).unwrap();
+    let mut codeplug = Codeplug::open(&file, 1000, 1000, OLDER).unwrap();
     assert_eq!(codeplug.entries(0).unwrap().len(), 65_535);
     refused(&mut codeplug, 34, 0, |c| c.insert_entry(0, 0, 0));
 }
@@ -179,13 +179,13 @@ fn set_header() {
 
 #[test]
 fn without_room_or_history() {
-    let mut codeplug = Codeplug::open(&sample("empty"), 37, 1000).unwrap();
+    let mut codeplug = Codeplug::open(&sample("empty"), 37, 1000, OLDER).unwrap();
     refused(&mut codeplug, 36, 0, |c| c.insert_bank(0, ""));
-    let mut codeplug = Codeplug::open(&sample("empty"), 38, 3).unwrap();
+    let mut codeplug = Codeplug::open(&sample("empty"), 38, 3, OLDER).unwrap();
     assert_eq!(codeplug.insert_bank(0, ""), Ok(EditAnswer { length: 126, used: 3, entries: 1 }));
-    let mut codeplug = Codeplug::open(&sample("empty"), 38, 2).unwrap();
+    let mut codeplug = Codeplug::open(&sample("empty"), 38, 2, OLDER).unwrap();
     refused(&mut codeplug, 37, 0, |c| c.insert_bank(0, ""));
-    let mut codeplug = Codeplug::open(&sample("empty"), 0, 0).unwrap();
+    let mut codeplug = Codeplug::open(&sample("empty"), 0, 0, OLDER).unwrap();
     refused(&mut codeplug, 37, 0, |c| c.set_header("", "", 1));
     refused(&mut codeplug, 38, 0, |c| c.undo());
 }
@@ -193,7 +193,7 @@ fn without_room_or_history() {
 /// Where the history is full, the oldest edit can no longer be taken back.
 #[test]
 fn history_drops_the_oldest() {
-    let mut codeplug = Codeplug::open(&sample("empty"), 0, 4).unwrap();
+    let mut codeplug = Codeplug::open(&sample("empty"), 0, 4, OLDER).unwrap();
     assert_eq!(codeplug.set_header("", "", 1), Ok(EditAnswer { length: 88, used: 4, entries: 1 }));
     assert_eq!(codeplug.set_header("", "", 2), Ok(EditAnswer { length: 88, used: 4, entries: 1 }));
     codeplug.undo().unwrap();

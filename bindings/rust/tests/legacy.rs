@@ -26,19 +26,19 @@ fn with(at: usize, bytes: &[u8]) -> Vec<u8> {
 
 fn migrated(file: &[u8]) -> (Result<Counts, Refused>, Vec<u8>) {
     let mut left = file.to_vec();
-    (migrate(&mut left), left)
+    (migrate(&mut left, OLDER), left)
 }
 
 /// Both calls refuse the file, which stays as it is.
 fn refused(file: &[u8], number: u8, place: usize) {
-    assert_eq!(validate_legacy(file), no(number, place));
+    assert_eq!(validate_legacy(file, OLDER), no(number, place));
     assert!(migrated(file) == (no(number, place), file.to_vec()), "{number} at {place}: answered otherwise, or the file was touched");
 }
 
 #[test]
 fn the_legacy_sample_becomes_the_club() {
     let legacy = sample("club-legacy");
-    assert_eq!((validate(&legacy), validate_legacy(&legacy)), (no(7, 203), Ok(CLUB)));
+    assert_eq!((validate(&legacy, OLDER), validate_legacy(&legacy, OLDER)), (no(7, 203), Ok(CLUB)));
     assert!(migrated(&legacy) == (Ok(CLUB), sample("club")));
     let changed: Vec<_> = (0..legacy.len()).filter(|n| legacy[*n] != sample("club")[*n]).collect();
     assert_eq!(changed, [contact(2) + 37, channel(2) + 1, channel(3) + 1]);
@@ -46,8 +46,8 @@ fn the_legacy_sample_becomes_the_club() {
 
 #[test]
 fn migrated_records_are_those_of_the_club() {
-    assert_eq!(Codeplug::open(&sample("club-legacy"), 0, 0).map(|_| ()), no(7, 203));
-    let (ours, there) = (Codeplug::open(&migrated(&sample("club-legacy")).1, 0, 0).unwrap(), club());
+    assert_eq!(Codeplug::open(&sample("club-legacy"), 0, 0, OLDER).map(|_| ()), no(7, 203));
+    let (ours, there) = (Codeplug::open(&migrated(&sample("club-legacy")).1, 0, 0, OLDER).unwrap(), club());
     assert_eq!(ours.header(), there.header());
     (0..6).for_each(|n| assert_eq!(ours.contact(n).unwrap(), there.contact(n).unwrap()));
     (0..10).for_each(|n| assert_eq!(ours.channel(n).unwrap(), there.channel(n).unwrap()));
@@ -69,7 +69,7 @@ fn every_byte() {
             };
             let mut expected = sample("club");
             expected[at] = *new;
-            assert_eq!((validate_legacy(&file), validate(&expected)), (Ok(CLUB), Ok(CLUB)));
+            assert_eq!((validate_legacy(&file, OLDER), validate(&expected, OLDER)), (Ok(CLUB), Ok(CLUB)));
             assert!(migrated(&file) == (Ok(CLUB), expected), "{byte:02X} at {at}");
         }
     }
@@ -80,9 +80,9 @@ fn every_byte() {
 fn fields_read_as_they_did() {
     for (legacy, _) in BYTES {
         let (number, flag) = (legacy >> 6, legacy & 0x20 != 0);
-        let ours = Codeplug::open(&migrated(&with(channel(7) + 1, &[legacy])).1, 0, 0).unwrap().channel(7).unwrap();
+        let ours = Codeplug::open(&migrated(&with(channel(7) + 1, &[legacy])).1, 0, 0, OLDER).unwrap().channel(7).unwrap();
         assert_eq!((ours.bandwidth, ours.receive_only), (number, flag));
-        let ours = Codeplug::open(&migrated(&with(contact(1) + 37, &[legacy])).1, 0, 0).unwrap().contact(1).unwrap();
+        let ours = Codeplug::open(&migrated(&with(contact(1) + 37, &[legacy])).1, 0, 0, OLDER).unwrap().contact(1).unwrap();
         assert_eq!(ours.info, ContactInfo::Dmr { id: 2227, contact_type: number, rx_tone: flag });
     }
 }
@@ -95,7 +95,7 @@ fn an_m17_address_stays() {
         let (answer, left) = migrated(&file);
         assert_eq!((answer, left[contact(5) + 37]), (Ok(CLUB), byte));
         let address = Address::Callsign(0x1_0000 + 0x100 * u64::from(byte));
-        assert_eq!(codeplug::contact(&left, 5).unwrap().info, ContactInfo::M17(address));
+        assert_eq!(codeplug::contact(&left, 5, OLDER).unwrap().info, ContactInfo::M17(address));
     }
 }
 
@@ -131,7 +131,7 @@ fn the_first_bad_field_answers() {
 fn cut_at_every_length() {
     let (legacy, club) = (sample("club-legacy"), sample("club"));
     for length in 0..1400 {
-        let Err(Refused { number: 2, place }) = validate(&club[..length]) else { panic!("{length}") };
+        let Err(Refused { number: 2, place }) = validate(&club[..length], OLDER) else { panic!("{length}") };
         refused(&legacy[..length], 2, place);
     }
 }
@@ -139,7 +139,7 @@ fn cut_at_every_length() {
 #[test]
 fn migrated_twice_is_refused() {
     let mut file = sample("club-legacy");
-    migrate(&mut file).unwrap();
+    migrate(&mut file, OLDER).unwrap();
     refused(&file, 7, 203);
     assert_eq!(file, sample("club"));
 }
@@ -147,16 +147,16 @@ fn migrated_twice_is_refused() {
 #[test]
 fn valid_by_both_readings_stays() {
     for file in ["dealer", "hire", "empty"].map(sample) {
-        assert!(validate(&file).is_ok());
-        assert_eq!(validate_legacy(&file), validate(&file));
-        assert!(migrated(&file) == (validate(&file), file.clone()));
+        assert!(validate(&file, OLDER).is_ok());
+        assert_eq!(validate_legacy(&file, OLDER), validate(&file, OLDER));
+        assert!(migrated(&file) == (validate(&file, OLDER), file.clone()));
     }
 }
 
 /// One channel, and banks up to the longest file's length.
 #[test]
 fn the_longest_file() {
-    let mut codeplug = Codeplug::empty(1000, 1000);
+    let mut codeplug = Codeplug::empty(1000, 1000, OLDER);
     codeplug.insert_channel(0, &fm("Only")).unwrap();
     (0..8).for_each(|_| assert!(codeplug.insert_bank(0, "").is_ok()));
     let (banks, left) = (codeplug.bytes().len() - 8 * 34, FILE_MAX - codeplug.bytes().len() - 7 * 2 * 65_535);
@@ -170,8 +170,8 @@ fn the_longest_file() {
     }
     let mut expected = file.clone();
     (file[89], expected[89]) = (0xA0, 6);
-    assert_eq!((file.len(), validate(&expected).unwrap().banks), (FILE_MAX, 8));
-    assert!(migrated(&file) == (validate(&expected), expected));
+    assert_eq!((file.len(), validate(&expected, OLDER).unwrap().banks), (FILE_MAX, 8));
+    assert!(migrated(&file) == (validate(&expected, OLDER), expected));
     file.push(0);
     refused(&file, 1, 0);
 }
@@ -182,14 +182,14 @@ fn in_a_room() {
     let mut room = sample("club-legacy");
     room.resize(1500, 0xA0);
     refused(&room, 12, 1400);
-    assert_eq!(migrate(&mut room[..1400]), Ok(CLUB));
+    assert_eq!(migrate(&mut room[..1400], OLDER), Ok(CLUB));
     assert_eq!((&room[..1400], &room[1400..]), (&sample("club")[..], &[0xA0; 100][..]));
 }
 
 /// Edits begin at the migrated file, and undo leads back to it.
 #[test]
 fn edited_and_undone() {
-    let mut codeplug = Codeplug::open(&migrated(&sample("club-legacy")).1, 1000, 10_000).unwrap();
+    let mut codeplug = Codeplug::open(&migrated(&sample("club-legacy")).1, 1000, 10_000, OLDER).unwrap();
     codeplug.remove_contact(2).unwrap();
     codeplug.remove_channel(3).unwrap();
     (0..2).for_each(|_| assert!(codeplug.undo().is_ok()));
@@ -199,12 +199,12 @@ fn edited_and_undone() {
 /// Why the history of a legacy file is thrown away: undo may be refused, or bring back a wrong file.
 #[test]
 fn the_history_of_a_legacy_file_does_not_fit() {
-    let restored = |history: &[u8]| Codeplug::restore(&sample("club"), history, 0, 0).unwrap();
+    let restored = |history: &[u8]| Codeplug::restore(&sample("club"), history, 0, 0, OLDER).unwrap();
     // Settings of contact 2, at 203, were 0x40.
     assert_eq!(restored(&[0xCB, 1, 1, 1, 0x40]).undo(), no(39, 0));
     // Its mode, at 198, was M17: then byte 203 belonged to the address, and should have stayed 0x60.
     let mut codeplug = restored(&[0xC6, 1, 1, 1, 2]);
     assert!(codeplug.undo().is_ok());
     let (_, right) = migrated(&with(198, &[2]));
-    assert_eq!((codeplug.bytes()[203], right[203], validate(&right)), (5, 0x60, Ok(CLUB)));
+    assert_eq!((codeplug.bytes()[203], right[203], validate(&right, OLDER)), (5, 0x60, Ok(CLUB)));
 }

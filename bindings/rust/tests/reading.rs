@@ -10,21 +10,21 @@ fn opens_or_refuses_each_sample() {
     let answers = std::fs::read_to_string(format!("{ROOT}/samples/answers.txt")).unwrap();
     for (name, answer) in answers.lines().map(|line| line.split_once(".rtxc: ").unwrap()) {
         let file = sample(name);
-        let opened = Codeplug::open(&file, 0, 0);
+        let opened = Codeplug::open(&file, 0, 0, OLDER);
         let found = match &opened {
             Ok(codeplug) => format!("ok {} {} {}", codeplug.counts().contacts, codeplug.counts().channels, codeplug.counts().banks),
             Err(r) => format!("refused {} at {}", r.number, r.place),
         };
         assert_eq!(found, answer, "{name}");
-        assert_eq!(codeplug::validate(&file), opened.map(|codeplug| codeplug.counts()), "{name}");
+        assert_eq!(codeplug::validate(&file, OLDER), opened.map(|codeplug| codeplug.counts()), "{name}");
     }
 }
 
 #[test]
 fn opens_nothing_and_too_much() {
-    assert_eq!(codeplug::validate(&[]), no(2, 0));
-    assert_eq!(Codeplug::open(&vec![0; codeplug::FILE_MAX + 1], 0, 0).map(|_| ()), no(1, 0));
-    let codeplug = Codeplug::open(&sample("club"), usize::MAX, 0).unwrap();
+    assert_eq!(codeplug::validate(&[], OLDER), no(2, 0));
+    assert_eq!(Codeplug::open(&vec![0; codeplug::FILE_MAX + 1], 0, 0, OLDER).map(|_| ()), no(1, 0));
+    let codeplug = Codeplug::open(&sample("club"), usize::MAX, 0, OLDER).unwrap();
     assert_eq!(codeplug.bytes(), sample("club"));
 }
 
@@ -35,8 +35,8 @@ fn counts_and_header() {
     assert_eq!(codeplug.undoable(), 0);
     let (author, description) = ("Hilltop Radio Club".into(), "Members' set, autumn".into());
     assert_eq!(codeplug.header(), Header { author, description, timestamp: 1_762_000_000, counts: CLUB });
-    assert_eq!(codeplug::header(codeplug.bytes()), Ok(codeplug.header()));
-    assert_eq!(codeplug::header(&sample("club-trailing")), no(12, 1400));
+    assert_eq!(codeplug::header(codeplug.bytes(), OLDER), Ok(codeplug.header()));
+    assert_eq!(codeplug::header(&sample("club-trailing"), OLDER), no(12, 1400));
 }
 
 #[test]
@@ -49,9 +49,9 @@ fn contacts() {
     assert_eq!(codeplug.contact(5).unwrap().info, ContactInfo::M17(Address::Callsign(10_476_881)));
     assert_eq!(codeplug.contact(6), no(33, 0));
     assert_eq!(codeplug.contact(usize::MAX), no(33, 0));
-    assert_eq!(codeplug::contact(&sample("club-newline-in-name"), 1), no(5, 88));
-    assert_eq!(prevalidated::contact(&sample("club-newline-in-name"), 0), no(5, 88));
-    assert_eq!(prevalidated::contact(&sample("club-newline-in-name"), 1), codeplug.contact(1));
+    assert_eq!(codeplug::contact(&sample("club-newline-in-name"), 1, OLDER), no(5, 88));
+    assert_eq!(prevalidated::contact(&sample("club-newline-in-name"), 0, OLDER), no(5, 88));
+    assert_eq!(prevalidated::contact(&sample("club-newline-in-name"), 1, OLDER), codeplug.contact(1));
 }
 
 #[test]
@@ -74,7 +74,7 @@ fn channels() {
     let south = codeplug.channel(9).unwrap();
     assert_eq!((south.latitude, south.latitude_e4, south.info.contact()), (-34, 1325, None));
     assert_eq!(codeplug.channel(10), no(33, 0));
-    assert_eq!(codeplug::channel(&sample("club-tone-50"), 1), no(7, 408));
+    assert_eq!(codeplug::channel(&sample("club-tone-50"), 1, OLDER), no(7, 408));
     assert_eq!(prevalidated::channel(&sample("club-tone-50"), 0), no(7, 408));
 }
 
@@ -88,7 +88,7 @@ fn prevalidated_channels_have_their_contact_looked_up() {
     for bad in [3_u16, 6, 65_534] {
         file[at..at + 2].copy_from_slice(&bad.to_le_bytes());
         assert_eq!(prevalidated::channel(&file, 4), no(9, at));
-        assert_eq!(prevalidated::channel(&file, 5), codeplug::channel(&sample("club"), 5));
+        assert_eq!(prevalidated::channel(&file, 5), codeplug::channel(&sample("club"), 5, OLDER));
     }
 }
 
@@ -97,10 +97,10 @@ fn prevalidated_channels_have_their_contact_looked_up() {
 fn prevalidated_banks_are_read_where_their_offset_says() {
     let mut file = sample("club");
     file[1222..1226].copy_from_slice(&100_000_u32.to_le_bytes());
-    assert_eq!((codeplug::bank(&file, 0), prevalidated::bank(&file, 0)), (no(10, 1222), no(2, 1238 + 100_000)));
+    assert_eq!((codeplug::bank(&file, 0, OLDER), prevalidated::bank(&file, 0)), (no(10, 1222), no(2, 1238 + 100_000)));
     let mut file = sample("club");
     file[1238 + 34] = 255;
-    assert_eq!(codeplug::bank_entry(&file, 0, 0), no(11, 1238 + 34));
+    assert_eq!(codeplug::bank_entry(&file, 0, 0, OLDER), no(11, 1238 + 34));
     assert_eq!(prevalidated::bank_entry(&file, 0, 0), Ok(Entry { channel: 255, next: 1 }));
 }
 
@@ -113,23 +113,23 @@ fn banks_and_entries() {
     assert_eq!(codeplug.bank(4), no(33, 0));
     assert_eq!(codeplug.entries(4), no(33, 0));
     let file = codeplug.bytes();
-    assert_eq!(codeplug::entries(file, 3), Ok(vec![0, 0, 7]));
-    assert_eq!(codeplug::bank_entry(file, 3, 2), Ok(Entry { channel: 7, next: 3 }));
-    assert_eq!(codeplug::bank_entry(file, 3, 3), no(33, 0));
+    assert_eq!(codeplug::entries(file, 3, OLDER), Ok(vec![0, 0, 7]));
+    assert_eq!(codeplug::bank_entry(file, 3, 2, OLDER), Ok(Entry { channel: 7, next: 3 }));
+    assert_eq!(codeplug::bank_entry(file, 3, 3, OLDER), no(33, 0));
     assert_eq!(prevalidated::bank_entry(file, 3, 3), no(33, 0));
     let cut = sample("club-cut");
-    assert_eq!(codeplug::bank(&cut, 0), no(2, 997));
-    assert_eq!(codeplug::entries(&cut, 0), no(2, 997));
-    assert_eq!(codeplug::bank_entry(&cut, 0, 0), no(2, 997));
+    assert_eq!(codeplug::bank(&cut, 0, OLDER), no(2, 997));
+    assert_eq!(codeplug::entries(&cut, 0, OLDER), no(2, 997));
+    assert_eq!(codeplug::bank_entry(&cut, 0, 0, OLDER), no(2, 997));
 }
 
 #[test]
 fn both_readers_agree() {
     for file in ["club", "dealer", "hire"].map(sample) {
-        let counts = codeplug::validate(&file).unwrap();
-        (0..counts.contacts.into()).for_each(|n| assert_eq!(codeplug::contact(&file, n), prevalidated::contact(&file, n)));
-        (0..counts.channels.into()).for_each(|n| assert_eq!(codeplug::channel(&file, n), prevalidated::channel(&file, n)));
-        (0..counts.banks.into()).for_each(|n| assert_eq!(codeplug::bank(&file, n), prevalidated::bank(&file, n)));
-        (0..counts.banks.into()).for_each(|n| assert_eq!(codeplug::entries(&file, n), prevalidated::entries(&file, n)));
+        let counts = codeplug::validate(&file, OLDER).unwrap();
+        (0..counts.contacts.into()).for_each(|n| assert_eq!(codeplug::contact(&file, n, OLDER), prevalidated::contact(&file, n, OLDER)));
+        (0..counts.channels.into()).for_each(|n| assert_eq!(codeplug::channel(&file, n, OLDER), prevalidated::channel(&file, n)));
+        (0..counts.banks.into()).for_each(|n| assert_eq!(codeplug::bank(&file, n, OLDER), prevalidated::bank(&file, n)));
+        (0..counts.banks.into()).for_each(|n| assert_eq!(codeplug::entries(&file, n, OLDER), prevalidated::entries(&file, n)));
     }
 }

@@ -13,13 +13,13 @@ fn header() -> String {
 #[test]
 fn every_sample_record_is_written_as_it_was() {
     for file in ["club", "dealer", "hire"].map(sample) {
-        let counts = codeplug::validate(&file).unwrap();
+        let counts = codeplug::validate(&file, OLDER).unwrap();
         let (contacts, channels) = file[88..].split_at(39 * usize::from(counts.contacts));
         for (n, there) in contacts.chunks(39).enumerate() {
-            assert_eq!(write_contact(&codeplug::contact(&file, n).unwrap()).unwrap(), there);
+            assert_eq!(write_contact(&codeplug::contact(&file, n, OLDER).unwrap(), OLDER).unwrap(), there);
         }
         for (n, there) in channels.chunks(90).take(counts.channels.into()).enumerate() {
-            assert_eq!(write_channel(&codeplug::channel(&file, n).unwrap()).unwrap(), there);
+            assert_eq!(write_channel(&codeplug::channel(&file, n, OLDER).unwrap()).unwrap(), there);
         }
     }
 }
@@ -33,19 +33,19 @@ fn traits_and_settings() {
             assert_eq!(record[1], byte);
         }
         let info = ContactInfo::Dmr { id: 1, contact_type: number, rx_tone: flag };
-        assert_eq!(write_contact(&Contact { name: "".into(), info }).unwrap()[37], byte);
+        assert_eq!(write_contact(&Contact { name: "".into(), info }, OLDER).unwrap()[37], byte);
     }
 }
 
 #[test]
 fn contacts_refused() {
-    let name = |name: &str| write_contact(&dmr(name, 1)).map(|_| ());
+    let name = |name: &str| write_contact(&dmr(name, 1), OLDER).map(|_| ());
     assert_eq!(name(&"x".repeat(32)), Ok(()));
     assert_eq!(name(""), Ok(()));
     for bad in ["x".repeat(33).as_str(), "a\nb", "a\0", "\0", "é"] {
         assert_eq!(name(bad), no(5, 0), "{bad:?}");
     }
-    let contact = |info| write_contact(&Contact { name: "".into(), info });
+    let contact = |info| write_contact(&Contact { name: "".into(), info }, OLDER);
     assert_eq!(contact(ContactInfo::Dmr { id: u32::MAX, contact_type: 3, rx_tone: true }), no(7, 37));
     for bad in [0, 262_144_000_000_000, 0xFFFF_FFFF_FFFF, u64::MAX] {
         assert_eq!(contact(ContactInfo::M17(Address::Callsign(bad))), no(8, 33));
@@ -84,18 +84,18 @@ fn blanks() {
 
 #[test]
 fn callsigns() {
-    assert_eq!(Address::of_callsign("AB1CD"), Ok(Address::Callsign(10_476_881)));
-    assert_eq!(codeplug::encode_callsign("........."), Ok(262_143_999_999_999));
-    assert_eq!(codeplug::encode_callsign(""), no(20, 0));
-    assert_eq!(codeplug::encode_callsign("ABCDEFGHIJ"), no(20, 0));
-    assert_eq!(codeplug::encode_callsign("ABc"), no(21, 2));
-    assert_eq!(codeplug::encode_callsign("A "), no(22, 0));
-    assert_eq!(Address::Callsign(10_476_881).callsign(), Ok(Some("AB1CD".into())));
-    assert_eq!(codeplug::decode_address(40), Ok(Some(" A".into())));
-    assert_eq!(codeplug::decode_address(0xFFFF_FFFF_FFFF), Ok(None));
-    assert_eq!(Address::Broadcast.callsign(), Ok(None));
-    assert_eq!(codeplug::decode_address(0), no(23, 0));
-    assert_eq!(codeplug::decode_address(262_144_000_000_000), no(23, 0));
+    assert_eq!(Address::of_callsign("AB1CD", OLDER), Ok(Address::Callsign(10_476_881)));
+    assert_eq!(codeplug::encode_callsign(".........", OLDER), Ok(262_143_999_999_999));
+    assert_eq!(codeplug::encode_callsign("", OLDER), no(20, 0));
+    assert_eq!(codeplug::encode_callsign("ABCDEFGHIJ", OLDER), no(20, 0));
+    assert_eq!(codeplug::encode_callsign("ABc", OLDER), no(21, 2));
+    assert_eq!(codeplug::encode_callsign("A ", OLDER), no(22, 0));
+    assert_eq!(Address::Callsign(10_476_881).callsign(OLDER), Ok(Some("AB1CD".into())));
+    assert_eq!(codeplug::decode_address(40, OLDER), Ok(Some(" A".into())));
+    assert_eq!(codeplug::decode_address(0xFFFF_FFFF_FFFF, OLDER), Ok(None));
+    assert_eq!(Address::Broadcast.callsign(OLDER), Ok(None));
+    assert_eq!(codeplug::decode_address(0, OLDER), no(23, 0));
+    assert_eq!(codeplug::decode_address(262_144_000_000_000, OLDER), no(23, 0));
 }
 
 #[test]
@@ -182,6 +182,12 @@ fn kinds_of_edits_are_those_of_the_header() {
         ("SET_HEADER", EditKind::SetHeader as usize),
     ]);
     assert_eq!(ours, numbers("edit_kind"));
+}
+
+#[test]
+fn editions_are_those_of_the_header() {
+    let ours = named([("EDITION_OLDER", OLDER as usize), ("EDITION_NEWER", NEWER as usize)]);
+    assert_eq!(ours, numbers("edition"));
 }
 
 /// The crate, the header and the library have one version.

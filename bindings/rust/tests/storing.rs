@@ -5,7 +5,7 @@ use common::*;
 
 #[test]
 fn empty() {
-    let mut codeplug = Codeplug::empty(1000, 1000);
+    let mut codeplug = Codeplug::empty(1000, 1000, OLDER);
     assert_eq!((codeplug.bytes(), codeplug.undoable()), (&sample("empty")[..], 0));
     assert_eq!(codeplug::write_empty()[..], sample("empty"));
     codeplug.insert_bank(0, "Field day").unwrap();
@@ -13,7 +13,7 @@ fn empty() {
     let counts = Counts { contacts: 0, channels: 0, banks: 1 };
     assert_eq!(codeplug.header(), Header { author: "Shop".into(), description: "".into(), timestamp: 1, counts });
     assert_eq!(codeplug.bank(0).unwrap().name, "Field day");
-    assert_eq!(Codeplug::empty(0, 1000).insert_bank(0, ""), no(36, 0));
+    assert_eq!(Codeplug::empty(0, 1000, OLDER).insert_bank(0, ""), no(36, 0));
 }
 
 /// The club's codeplug after two edits.
@@ -28,7 +28,7 @@ fn edited() -> Codeplug {
 fn restored_and_undone() {
     let stored = edited();
     assert_eq!(codeplug::history_entries(stored.history()), Ok(2));
-    let mut codeplug = Codeplug::restore(stored.bytes(), stored.history(), 0, 0).unwrap();
+    let mut codeplug = Codeplug::restore(stored.bytes(), stored.history(), 0, 0, OLDER).unwrap();
     assert_eq!((codeplug.bytes(), codeplug.history(), codeplug.undoable()), (stored.bytes(), stored.history(), 2));
     assert_eq!(codeplug.undo().unwrap().entries, 1);
     assert_eq!(codeplug.undo(), Ok(EditAnswer { length: 1400, used: 0, entries: 0 }));
@@ -39,7 +39,7 @@ fn restored_and_undone() {
 #[test]
 fn restored_and_edited() {
     let stored = edited();
-    let mut codeplug = Codeplug::restore(stored.bytes(), stored.history(), 1000, 10_000).unwrap();
+    let mut codeplug = Codeplug::restore(stored.bytes(), stored.history(), 1000, 10_000, OLDER).unwrap();
     assert_eq!(codeplug.insert_bank(0, "More").unwrap().entries, 3);
     while codeplug.undoable() > 0 {
         codeplug.undo().unwrap();
@@ -50,7 +50,7 @@ fn restored_and_edited() {
 #[test]
 fn restore_refused() {
     let stored = edited();
-    let restored = |file: &[u8], history: &[u8]| Codeplug::restore(file, history, 0, 0).map(|codeplug| codeplug.undoable());
+    let restored = |file: &[u8], history: &[u8]| Codeplug::restore(file, history, 0, 0, OLDER).map(|codeplug| codeplug.undoable());
     assert_eq!(restored(&sample("club-trailing"), stored.history()), no(12, 1400));
     assert_eq!(restored(&sample("club-trailing"), &[0x80, 0]), no(12, 1400));
     assert_eq!(restored(stored.bytes(), &[0x80, 0]), no(31, 0));
@@ -62,7 +62,7 @@ fn restore_refused() {
 #[test]
 fn restored_with_the_history_of_another() {
     let stored = edited();
-    let mut codeplug = Codeplug::restore(&sample("empty"), stored.history(), 0, 0).unwrap();
+    let mut codeplug = Codeplug::restore(&sample("empty"), stored.history(), 0, 0, OLDER).unwrap();
     assert_eq!(codeplug.undo(), no(39, 0));
     assert_eq!((codeplug.bytes(), codeplug.history()), (&sample("empty")[..], stored.history()));
 }
@@ -74,7 +74,7 @@ fn restored_after_removals() {
     (0..4).for_each(|_| assert!(stored.remove_bank(0).is_ok()));
     (0..10).for_each(|_| assert!(stored.remove_channel(0).is_ok()));
     for spare in [0, 1, 2000, usize::MAX] {
-        let mut codeplug = Codeplug::restore(stored.bytes(), stored.history(), spare, 0).unwrap();
+        let mut codeplug = Codeplug::restore(stored.bytes(), stored.history(), spare, 0, OLDER).unwrap();
         (0..14).for_each(|_| assert!(codeplug.undo().is_ok()));
         assert_eq!((codeplug.undo(), codeplug.bytes()), (no(38, 0), &sample("club")[..]));
     }

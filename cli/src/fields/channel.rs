@@ -1,6 +1,6 @@
 //! A channel's fields.
 use super::Shown::{self, Alone, InTables, Never};
-use super::{put, Fault, Field, Set, Setter};
+use super::{put, Context, Fault, Field, Set, Setter};
 use crate::cell::Cell;
 use crate::values::{self, degrees_text, is_word, small, without_unit, word};
 use crate::which::place_of;
@@ -55,14 +55,14 @@ fn none_of(info: &Info) -> Set {
 macro_rules! by_mode {
     ($field:ident: $($mode:ident)|+, $get:expr, $set:expr, $blank:expr) => {
         (
-            |c: &Channel, contacts: &[Contact]| match &c.info {
-                $(Info::$mode { $field, .. })|+ => $get(*$field, contacts),
+            |c: &Channel, _: Context| match &c.info {
+                $(Info::$mode { $field, .. })|+ => $get(*$field),
                 _ => Cell::Absent,
             },
-            Setter::Value(|c: &mut Channel, text: &str, contacts: &[Contact]| {
+            Setter::Value(|c: &mut Channel, text: &str, context: Context| {
                 let mode = c.info.mode();
                 match &mut c.info {
-                    $(Info::$mode { $field, .. })|+ => put($field, $set(text, (mode, *$field, contacts))?),
+                    $(Info::$mode { $field, .. })|+ => put($field, $set(text, (mode, *$field, context.contacts))?),
                     _ if is_word(text, $blank) => Ok(()),
                     other => none_of(other),
                 }
@@ -74,7 +74,7 @@ macro_rules! by_mode {
     };
 }
 
-type Get = fn(&Channel, &[Contact]) -> Cell;
+type Get = fn(&Channel, Context) -> Cell;
 
 /// A field by its key, option, heading and where it is shown.
 const fn field(
@@ -92,7 +92,7 @@ fn degrees((floor, e4): (&mut i8, &mut u16), value: (i8, u16)) -> Set {
     Ok(())
 }
 
-fn number(value: u8, _: &[Contact]) -> Cell {
+fn number(value: u8) -> Cell {
     Cell::Number(value.into())
 }
 
@@ -214,21 +214,15 @@ pub static CHANNEL: &[Field<Channel>] = &[
             Setter::Value(|c, text, _| put(&mut c.altitude_plus_500, values::altitude(text)?)),
         ),
     ),
-    field(
-        ("receive_tone", "receive-tone", "receive tone", InTables),
-        by_mode!(receive_tone: Fm, |tone, _| Cell::Tone(tone), set_tone, "off"),
-    ),
+    field(("receive_tone", "receive-tone", "receive tone", InTables), by_mode!(receive_tone: Fm, Cell::Tone, set_tone, "off")),
     field(
         ("receive_tone_index", "", "", Never),
-        (|c, _| if let Info::Fm { receive_tone: tone, .. } = c.info { number(tone.index(), &[]) } else { Cell::Absent }, Setter::Never),
+        (|c, _| if let Info::Fm { receive_tone: tone, .. } = c.info { number(tone.index()) } else { Cell::Absent }, Setter::Never),
     ),
-    field(
-        ("transmit_tone", "transmit-tone", "transmit tone", InTables),
-        by_mode!(transmit_tone: Fm, |tone, _| Cell::Tone(tone), set_tone, "off"),
-    ),
+    field(("transmit_tone", "transmit-tone", "transmit tone", InTables), by_mode!(transmit_tone: Fm, Cell::Tone, set_tone, "off")),
     field(
         ("transmit_tone_index", "", "", Never),
-        (|c, _| if let Info::Fm { transmit_tone: tone, .. } = c.info { number(tone.index(), &[]) } else { Cell::Absent }, Setter::Never),
+        (|c, _| if let Info::Fm { transmit_tone: tone, .. } = c.info { number(tone.index()) } else { Cell::Absent }, Setter::Never),
     ),
     field(("receive_colour", "receive-colour", "receive colour", Alone), by_mode!(receive_colour: Dmr, number, set_number)),
     field(("transmit_colour", "transmit-colour", "transmit colour", Alone), by_mode!(transmit_colour: Dmr, number, set_number)),
@@ -239,7 +233,7 @@ pub static CHANNEL: &[Field<Channel>] = &[
         ("operation", "operation", "operation", Alone),
         by_mode!(
             operation: M17,
-            |operation: u8, _| Cell::Word(OPERATIONS[usize::from(operation.clamp(1, 3) - 1)]),
+            |operation: u8| Cell::Word(OPERATIONS[usize::from(operation.clamp(1, 3) - 1)]),
             |text, _: Known<u8>| word(text, OPERATIONS).map(|at| at + 1)
         ),
     ),
@@ -247,25 +241,25 @@ pub static CHANNEL: &[Field<Channel>] = &[
         ("encryption", "encryption", "encryption", Alone),
         by_mode!(
             encryption: M17,
-            |encryption: u8, _| Cell::Word(ENCRYPTIONS[usize::from(encryption.min(2))]),
+            |encryption: u8| Cell::Word(ENCRYPTIONS[usize::from(encryption.min(2))]),
             |text, _: Known<u8>| word(text, ENCRYPTIONS)
         ),
     ),
     field(
         ("position", "position", "position", Alone),
-        by_mode!(position: M17, |on, _| Cell::Flag(on, OFF_ON), |text, _: Known<bool>| word(text, &OFF_ON).map(|on| on == 1)),
+        by_mode!(position: M17, |on| Cell::Flag(on, OFF_ON), |text, _: Known<bool>| word(text, &OFF_ON).map(|on| on == 1)),
     ),
     field(
         ("contact", "contact", "contact", InTables),
-        (shown_contact, by_mode!(contact: Dmr | M17, |_, _| Cell::Absent, set_contact, "none").1),
+        (|c, context| shown_contact(c, context.contacts), by_mode!(contact: Dmr | M17, |_| Cell::Absent, set_contact, "none").1),
     ),
     field(
         ("contact_name", "", "", Never),
         (
-            |c, contacts| match (c.info.contact(), &c.info) {
+            |c, context| match (c.info.contact(), &c.info) {
                 (_, Info::Fm { .. }) => Cell::Absent,
                 (None, _) => Cell::Blank(""),
-                (Some(n), _) => contacts.get(usize::from(n)).map_or(Cell::Absent, |contact| Cell::Text(contact.name.clone())),
+                (Some(n), _) => context.contacts.get(usize::from(n)).map_or(Cell::Absent, |contact| Cell::Text(contact.name.clone())),
             },
             Setter::Never,
         ),

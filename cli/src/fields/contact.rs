@@ -3,7 +3,7 @@ use super::{put, Fault, Field, Set, Setter, Shown};
 use crate::cell::Cell;
 use crate::convert::callsign_words;
 use crate::values;
-use codeplug::{decode_address, encode_callsign, Address, Contact, ContactInfo};
+use codeplug::{decode_address, encode_callsign, Address, Contact, ContactInfo, Edition};
 
 const DMR: ContactInfo = ContactInfo::Dmr { id: 0, contact_type: 0, rx_tone: false };
 /// No callsign's number: a writer refuses it, so that a contact gets its own.
@@ -44,16 +44,16 @@ fn mode(contact: &mut Contact, text: &str) -> Set {
     Ok(())
 }
 
-fn callsign(contact: &mut Contact, text: &str) -> Set {
-    let number = encode_callsign(text).map_err(|refused| Fault::Refused(refused, callsign_words(text, refused)))?;
+fn callsign(contact: &mut Contact, text: &str, edition: Edition) -> Set {
+    let number = encode_callsign(text, edition).map_err(|refused| Fault::Refused(refused, callsign_words(text, refused, edition)))?;
     m17(contact, Address::Callsign(number))
 }
 
-fn shown_callsign(contact: &Contact) -> Cell {
+fn shown_callsign(contact: &Contact, edition: Edition) -> Cell {
     match contact.info {
         ContactInfo::Dmr { .. } => Cell::Absent,
         ContactInfo::M17(Address::Broadcast) => Cell::Blank("broadcast"),
-        ContactInfo::M17(Address::Callsign(number)) => decode_address(number).ok().flatten().map_or(Cell::Absent, Cell::Text),
+        ContactInfo::M17(Address::Callsign(number)) => decode_address(number, edition).ok().flatten().map_or(Cell::Absent, Cell::Text),
     }
 }
 
@@ -115,8 +115,8 @@ pub static CONTACT: &[Field<Contact>] = &[
         option: "callsign",
         title: "callsign",
         shown: Shown::InTables,
-        get: |c, _| shown_callsign(c),
-        set: Setter::Value(|c, text, _| callsign(c, text)),
+        get: |c, context| shown_callsign(c, context.edition),
+        set: Setter::Value(|c, text, context| callsign(c, text, context.edition)),
     },
     Field {
         key: "broadcast",
@@ -139,9 +139,9 @@ pub static CONTACT: &[Field<Contact>] = &[
             ContactInfo::M17(Address::Broadcast) => Cell::Number(BROADCAST),
             ContactInfo::M17(Address::Callsign(number)) => Cell::Number(number),
         },
-        set: Setter::Value(|c, text, _| {
+        set: Setter::Value(|c, text, context| {
             let number = values::address(text)?;
-            m17(c, if decode_address(number) == Ok(None) { Address::Broadcast } else { Address::Callsign(number) })
+            m17(c, if decode_address(number, context.edition) == Ok(None) { Address::Broadcast } else { Address::Callsign(number) })
         }),
     },
 ];

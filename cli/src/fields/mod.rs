@@ -6,11 +6,18 @@ mod header;
 use crate::args::Args;
 use crate::cell::Cell;
 use crate::fail::{usage, Fail};
-use codeplug::{Contact, Refused};
+use codeplug::{Contact, Edition, Refused};
 
 pub use channel::{new_channel, shown_contact, CHANNEL};
 pub use contact::{new_contact, CONTACT};
 pub use header::HEADER;
+
+/// What a field is shown and set by besides its record: the codeplug's edition, and its contacts, by whose names a channel's is shown.
+#[derive(Clone, Copy)]
+pub struct Context<'a> {
+    pub edition: Edition,
+    pub contacts: &'a [Contact],
+}
 
 /// One field of a record.
 pub struct Field<R: 'static> {
@@ -21,8 +28,8 @@ pub struct Field<R: 'static> {
     /// Its heading.
     pub title: &'static str,
     pub shown: Shown,
-    /// What it holds. A channel's contact is shown by name, for which the contacts are there.
-    pub get: fn(&R, &[Contact]) -> Cell,
+    /// What it holds.
+    pub get: fn(&R, Context) -> Cell,
     pub set: Setter<R>,
 }
 
@@ -61,7 +68,7 @@ pub enum Shown {
 
 pub enum Setter<R> {
     /// By an option's value.
-    Value(fn(&mut R, &str, &[Contact]) -> Set),
+    Value(fn(&mut R, &str, Context) -> Set),
     /// A text, which --no-NAME leaves empty.
     Text(fn(&mut R, &str)),
     /// By an option without a value.
@@ -113,11 +120,11 @@ fn no_text(option: &str) -> &'static str {
 }
 
 /// Sets the fields that options name, in the table's order; tells which.
-pub fn set<R>(fields: &[Field<R>], record: &mut R, args: &mut Args, contacts: &[Contact]) -> Result<Vec<&'static str>, Fail> {
+pub fn set<R>(fields: &[Field<R>], record: &mut R, args: &mut Args, context: Context) -> Result<Vec<&'static str>, Fail> {
     let mut given = Vec::new();
     for field in fields {
         let done = match field.set {
-            Setter::Value(set) => args.value(field.option).map(|value| set(record, &value, contacts)),
+            Setter::Value(set) => args.value(field.option).map(|value| set(record, &value, context)),
             Setter::Flag(set) => args.flag(field.option).then(|| set(record)),
             Setter::Text(set) => text(field, args)?.map(|text| {
                 set(record, &text);

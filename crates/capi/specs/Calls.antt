@@ -2,6 +2,7 @@
 use mathlib.Core.Path.{_≡_}
 use Prim.Native.Nat.{ℕ}
 use mathlib.Core.List.{List}
+use Rattle.m17.specs.declared.Edition.{Edition}
 use Rattle.journal.specs.Machine.{State, Outcome, editStep, undoStep}
 use Rattle.edits.specs.Editing.{editing}
 use Rattle.preconditions.specs.Calls.{editRequest}
@@ -15,9 +16,9 @@ pub record Called (o : Outcome) (m : State) (r : EditAnswer) (room history : Lis
   pub history-is : history ≡ o .history
 
 -- those of an edit: its kind, its two places, its record and the buffers lent
-abbrev pub Edited : ℕ → ℕ → ℕ → List ℕ → State → EditAnswer → List ℕ → List ℕ → Type 0
-Edited kind first second bytes m r room history = Called (editStep editing (editRequest kind first second bytes) m) m r room history
+abbrev pub Edited : Edition → ℕ → ℕ → ℕ → List ℕ → State → EditAnswer → List ℕ → List ℕ → Type 0
+Edited e kind first second bytes m r room history = Called (editStep (editing e) (editRequest kind first second bytes) m) m r room history
 
 -- those of an undo
-abbrev pub Undone : State → EditAnswer → List ℕ → List ℕ → Type 0
-Undone m r room history = Called (undoStep editing m) m r room history
+abbrev pub Undone : Edition → State → EditAnswer → List ℕ → List ℕ → Type 0
+Undone e m r room history = Called (undoStep (editing e) m) m r room history

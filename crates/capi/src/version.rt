@@ -2,7 +2,7 @@
 ghost use mathlib.Core.Path.{_≡_};
 ghost use Rattle.capi.specs.Version.{versionNumber};
 
-pub const MAJOR: u32 = 2;
+pub const MAJOR: u32 = 3;
 
 pub const MINOR: u32 = 0;
 

@@ -1,4 +1,6 @@
 // Contacts, channels, a text field and the empty codeplug written over the beginning of a buffer.
+use m17::edition_of;
+ghost use Rattle.m17.specs.Edition.{editionOf};
 ghost use Rattle.capi_write.specs.Contacts.{ContactFromC};
 ghost use Rattle.capi_write.specs.Channels.{ChannelFromC};
 ghost use Rattle.capi_write.specs.Texts.{TextFromC, EmptyToC};
@@ -9,10 +11,11 @@ pub extern "C" fn codeplug_write_contact(
     out: &mut [u8],
     name: &[u8],
     values: capi_numbers::ContactValues,
+    edition: u32,
 ) -> capi_numbers::Refusal
-    ensures { λ r. ⌜ ContactFromC (now (out .entry)) (now (name .entry)) values r (now (out .exit)) ⌝ }
+    ensures { λ r. ⌜ ContactFromC (editionOf edition) (now (out .entry)) (now (name .entry)) values r (now (out .exit)) ⌝ }
 {
-    capi_write::contacts::write(out, name, values)
+    capi_write::contacts::write(out, name, values, edition_of(edition))
 }
 
 // Writes a channel's 90 bytes.

@@ -10,6 +10,7 @@ use Rattle.text.specs.Text.{givenOk}
 use Rattle.fields.specs.Rule.{_then_, unless, written}
 use Rattle.fields.specs.declared.rule.Validity.{Validity}
 use Rattle.fields.specs.declared.rule.Validity.the-variants.{Valid, Refused}
+use Rattle.m17.specs.declared.Edition.{Edition}
 use Rattle.contact.specs.Contact.{modeOk, contactWriteRule, contactWritten}
 use Rattle.contact.specs.declared.ContactInfo.{ContactInfo}
 use Rattle.capi_numbers.specs.Numbers.{refusalOf}
@@ -37,15 +38,15 @@ again true true m n p q v = refl
 again true false m n p q v = refl
 again false b m n p q v = refl
 
-known-mode : (size : ℕ) (name : List ℕ) (v : ContactValues) → modeOk (v .mode) ≡ true
-    → contactFromCRule size name v ≡ contactWriteRule size name (infoFrom v)
+known-mode : (ed : Edition) (size : ℕ) (name : List ℕ) (v : ContactValues) → modeOk (v .mode) ≡ true
+    → contactFromCRule ed size name v ≡ contactWriteRule ed size name (infoFrom v)
 unfolding contactFromCRule contactWriteRule unless _then_
-known-mode size name v ok = rw ok (again (leb 39 size) (givenOk name) 25 5 0 0 _)
+known-mode ed size name v ok = rw ok (again (leb 39 size) (givenOk name) 25 5 0 0 _)
 
-foreign-mode : (size : ℕ) (name : List ℕ) (v : ContactValues) → modeOk (v .mode) ≡ false
-    → contactFromCRule size name v ≡ unless (leb 39 size) 25 0 then unless (givenOk name) 5 0 then Refused 6 32
+foreign-mode : (ed : Edition) (size : ℕ) (name : List ℕ) (v : ContactValues) → modeOk (v .mode) ≡ false
+    → contactFromCRule ed size name v ≡ unless (leb 39 size) 25 0 then unless (givenOk name) 5 0 then Refused 6 32
 unfolding contactFromCRule unless _then_
-foreign-mode size name v bad = rw bad
+foreign-mode ed size name v bad = rw bad
 
 -- a chain that ends in a refusal writes nothing
 stopped : (a b : Validity) (n p : ℕ) (out s : List ℕ) → written (a then b then Refused n p) out s ≡ out
@@ -55,19 +56,19 @@ stopped Valid (Refused m q) n p out s = refl
 stopped (Refused m q) b n p out s = refl
 
 -- the library's answer is the one asked for
-pub contact-goes : (out name : List ℕ) (v : ContactValues) (info : ContactInfo) (r : Validity) (q : Refusal) (left : List ℕ) → modeOk (v .mode) ≡ true
-    → info ≡ infoFrom v → (r ≡ contactWriteRule (length out) name info) × (left ≡ contactWritten out name info)
-    → q ≡ refusalOf r → ContactFromC out name v q left
+pub contact-goes : (ed : Edition) (out name : List ℕ) (v : ContactValues) (info : ContactInfo) (r : Validity) (q : Refusal) (left : List ℕ) → modeOk (v .mode) ≡ true
+    → info ≡ infoFrom v → (r ≡ contactWriteRule ed (length out) name info) × (left ≡ contactWritten ed out name info)
+    → q ≡ refusalOf r → ContactFromC ed out name v q left
 unfolding contactWritten contactFromCWritten
-contact-goes out name v info r q left ok means w e =
-    let known = known-mode (length out) name v ok in
+contact-goes ed out name v info r q left ok means w e =
+    let known = known-mode ed (length out) name v ok in
     (rw (e, w .0, known, means), rw (known, ← means) (w .1))
 
 -- the answer to a foreign mode, and the buffer as lent
-pub contact-stops : (out name : List ℕ) (v : ContactValues) (r : Validity) (q : Refusal) → modeOk (v .mode) ≡ false
+pub contact-stops : (ed : Edition) (out name : List ℕ) (v : ContactValues) (r : Validity) (q : Refusal) → modeOk (v .mode) ≡ false
     → r ≡ unless (leb 39 (length out)) 25 0 then unless (givenOk name) 5 0 then Refused 6 32
-    → q ≡ refusalOf r → ContactFromC out name v q out
+    → q ≡ refusalOf r → ContactFromC ed out name v q out
 unfolding contactFromCWritten
-contact-stops out name v r q bad e f =
-    let foreign = foreign-mode (length out) name v bad in
+contact-stops ed out name v r q bad e f =
+    let foreign = foreign-mode ed (length out) name v bad in
     (rw (f, e, foreign), rw foreign (sym (stopped (unless (leb 39 (length out)) 25 0) (unless (givenOk name) 5 0) 6 32 out _)))

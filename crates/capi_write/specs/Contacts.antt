@@ -8,6 +8,7 @@ use lib.Dec.{eqb, leb}
 use Rattle.text.specs.Text.{givenOk}
 use Rattle.fields.specs.Rule.{_then_, unless, written}
 use Rattle.fields.specs.declared.rule.Validity.{Validity}
+use Rattle.m17.specs.declared.Edition.{Edition}
 use Rattle.m17.specs.declared.Address.the-variants.{Callsign, Broadcast}
 use Rattle.contact.specs.Contact.{modeOk, contactWriteRule, contactBytes}
 use Rattle.contact.specs.declared.ContactInfo.{ContactInfo}
@@ -25,17 +26,17 @@ infoFrom v =
 
 -- ---- a contact: what the library's writer refuses, the mode validated in its turn, at 32, after 25 and the name
 
-unfoldable pub contactFromCRule : ℕ → List ℕ → ContactValues → Validity
-contactFromCRule size name v =
+unfoldable pub contactFromCRule : Edition → ℕ → List ℕ → ContactValues → Validity
+contactFromCRule e size name v =
     unless (leb 39 size) 25 0
     then unless (givenOk name) 5 0
     then unless (modeOk (v .mode)) 6 32
-    then contactWriteRule size name (infoFrom v)
+    then contactWriteRule e size name (infoFrom v)
 
 -- the later contents of the buffer
-unfoldable pub contactFromCWritten : List ℕ → List ℕ → ContactValues → List ℕ
-contactFromCWritten out name v = written (contactFromCRule (length out) name v) out (contactBytes name (infoFrom v))
+unfoldable pub contactFromCWritten : Edition → List ℕ → List ℕ → ContactValues → List ℕ
+contactFromCWritten e out name v = written (contactFromCRule e (length out) name v) out (contactBytes name (infoFrom v))
 
 -- a refusal, and the buffer after it
-abbrev pub ContactFromC : List ℕ → List ℕ → ContactValues → Refusal → List ℕ → Type 0
-ContactFromC out name v r after = (r ≡ refusalOf (contactFromCRule (length out) name v)) × (after ≡ contactFromCWritten out name v)
+abbrev pub ContactFromC : Edition → List ℕ → List ℕ → ContactValues → Refusal → List ℕ → Type 0
+ContactFromC e out name v r after = (r ≡ refusalOf (contactFromCRule e (length out) name v)) × (after ≡ contactFromCWritten e out name v)

@@ -9,6 +9,7 @@ use format::refusals::MODE;
 use format::refusals::SHORT_BUFFER;
 use format::sizes::CONTACT_MODE_AT;
 use m17::Address;
+use m17::Edition;
 ghost use mathlib.Core.Path.{_≡_};
 ghost use Rattle.capi_write.specs.Contacts.{infoFrom, ContactFromC};
 
@@ -30,13 +31,18 @@ fn info_from(v: ContactValues) -> ContactInfo
 }
 
 // Writes a contact's 39 bytes.
-pub fn write(out: &mut [u8], name: &[u8], values: ContactValues) -> capi_numbers::Refusal
-    ensures { λ r. ⌜ ContactFromC (now (out .entry)) (now (name .entry)) values r (now (out .exit)) ⌝ }
+pub fn write(
+    out: &mut [u8],
+    name: &[u8],
+    values: ContactValues,
+    edition: Edition,
+) -> capi_numbers::Refusal
+    ensures { λ r. ⌜ ContactFromC edition (now (out .entry)) (now (name .entry)) values r (now (out .exit)) ⌝ }
 {
     let mode = values.mode;
     if mode == contact::DMR || mode == contact::M17 {
         let info = info_from(values);
-        return refusal_of(contact_writer::write(out, name, info));
+        return refusal_of(contact_writer::write(out, name, info, edition));
     }
     let short = unless(format::sizes::CONTACT_SIZE <= out.len(), SHORT_BUFFER, 0);
     let text = unless(text::given_ok(name), format::refusals::TEXT, 0);

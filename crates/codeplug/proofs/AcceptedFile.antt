@@ -11,6 +11,7 @@ use Rattle.fields.specs.Bytes.{part, num}
 use Rattle.fields.specs.declared.rule.Validity.{Validity}
 use Rattle.fields.specs.declared.rule.Validity.the-variants.{Valid, Refused}
 use Rattle.fields.proofs.Laws.{num-part}
+use Rattle.m17.specs.declared.Edition.{Edition}
 use Rattle.contact.specs.Contact.{contactAnswer}
 use Rattle.channel.specs.Rule.{channelRule, namedContact}
 use Rattle.channel_reader.specs.Reading.{dmrOf, m17Of, infoOf, channelOf, channelAnswer}
@@ -32,17 +33,17 @@ use Rattle.codeplug.proofs.Laws.{place-valid, place-passes}
 
 -- ---- every record below its count is read
 
-pub contact-reads : (f : List ℕ) (n : ℕ) → fileRule f ≡ Valid → n < contactCount f → contactRead f n .validity ≡ Valid
+pub contact-reads : (ed : Edition) (f : List ℕ) (n : ℕ) → fileRule ed f ≡ Valid → n < contactCount f → contactRead ed f n .validity ≡ Valid
 unfolding contactRead contactAnswer
-contact-reads f n h g = rw (place-passes f n (contactCount f) h g)
+contact-reads ed f n h g = rw (place-passes ed f n (contactCount f) h g)
 
-pub channel-reads : (f : List ℕ) (n : ℕ) → fileRule f ≡ Valid → n < channelCount f → channelRead f n .validity ≡ Valid
+pub channel-reads : (ed : Edition) (f : List ℕ) (n : ℕ) → fileRule ed f ≡ Valid → n < channelCount f → channelRead ed f n .validity ≡ Valid
 unfolding channelRead channelAnswer
-channel-reads f n h g = rw (place-passes f n (channelCount f) h g)
+channel-reads ed f n h g = rw (place-passes ed f n (channelCount f) h g)
 
-pub bank-reads : (f : List ℕ) (n : ℕ) → fileRule f ≡ Valid → n < bankCount f → bankRead f n .validity ≡ Valid
+pub bank-reads : (ed : Edition) (f : List ℕ) (n : ℕ) → fileRule ed f ≡ Valid → n < bankCount f → bankRead ed f n .validity ≡ Valid
 unfolding bankRead bankAnswer
-bank-reads f n h g = rw (place-passes f n (bankCount f) h g)
+bank-reads ed f n h g = rw (place-passes ed f n (bankCount f) h g)
 
 -- ---- every entry of a bank names a channel
 
@@ -64,14 +65,14 @@ entry-of f p m i c j all h = by (ltb i (length (part f p (m * 2)) / 2)) refl
         let z : _≡_ {A = ℕ} 0 1 = cc in
         absurd (omega arith)
 
-pub entry-names : (f : List ℕ) (n i c j : ℕ) → entryRead f n i ≡ step.Entry c j → c < channelCount f
+pub entry-names : (ed : Edition) (f : List ℕ) (n i c j : ℕ) → entryRead ed f n i ≡ step.Entry c j → c < channelCount f
 unfolding entryRead entryAnswer entriesRead entriesAnswer
-entry-names f n i c j h = by (placeRule f n (bankCount f)) refl
+entry-names ed f n i c j h = by (placeRule ed f n (bankCount f)) refl
   where
-    by : (v : Validity) → placeRule f n (bankCount f) ≡ v → c < channelCount f
+    by : (v : Validity) → placeRule ed f n (bankCount f) ≡ v → c < channelCount f
     by Valid e =
-        let g = place-valid f n (bankCount f) e in
-        let b = bank-valid f n (file-valid f (g .file) .banks) (g .below) .1 in
+        let g = place-valid ed f n (bankCount f) e in
+        let b = bank-valid f n (file-valid ed f (g .file) .banks) (g .below) .1 in
         let a : entryStep (part f (bankPlace f n + 34) (entryCount f (bankPlace f n) * 2)) i ≡ step.Entry c j = rw e at h in
         entry-of f (bankPlace f n + 34) (entryCount f (bankPlace f n)) i c j
         (λ k l. entry-valid f (entryCount f (bankPlace f n)) (bankPlace f n + 34) k b l) a
@@ -117,12 +118,12 @@ named f s p h =
     (λ e. valid-named s p (namesContact f (getD s 0 0) (namedContact s)) h (omega arith))
     (λ l. valid-named s p (namesContact f (getD s 0 0) (namedContact s)) h (omega arith))
 
-pub channel-names : (f : List ℕ) (n : ℕ) → fileRule f ≡ Valid → n < channelCount f
-    → namesContact f (modeNumber (channelRead f n .channel .info)) (infoContact (channelRead f n .channel .info)) ≡ true
+pub channel-names : (ed : Edition) (f : List ℕ) (n : ℕ) → fileRule ed f ≡ Valid → n < channelCount f
+    → namesContact f (modeNumber (channelRead ed f n .channel .info)) (infoContact (channelRead ed f n .channel .info)) ≡ true
 unfolding channelRead channelAnswer channelOf
-channel-names f n h g =
-    let t = channel-there f n (file-valid f h .channels) g in
+channel-names ed f n h g =
+    let t = channel-there f n (file-valid ed f h .channels) g in
     let s = part f (channelPlace f n) 90 in
     let m = valid-channel s (channelPlace f n) (indexOk f s) t .mode in
     let l = valid-length s (channelPlace f n) (indexOk f s) t in
-    rw (place-passes f n (channelCount f) h g, mode-of s m, contact-of s m l) (named f s (channelPlace f n) t)
+    rw (place-passes ed f n (channelCount f) h g, mode-of s m, contact-of s m l) (named f s (channelPlace f n) t)

@@ -11,6 +11,7 @@ use Rattle.fields.specs.Rule.{_then_, unless}
 use Rattle.fields.specs.declared.rule.Validity.{Validity}
 use Rattle.fields.specs.declared.rule.Validity.the-variants.{Valid, Refused}
 use Rattle.fields.proofs.Laws.{length-part, then-valid, valid-then, both-valid, unless-valid, unless-passes}
+use Rattle.m17.specs.declared.Edition.{Edition}
 use Rattle.contact.specs.Contact.{contactAnswer}
 use Rattle.channel_reader.specs.Reading.{channelAnswer}
 use Rattle.layout.specs.Places.{contactCount, channelCount, bankCount, contactPlace, channelPlace, offsetPlace}
@@ -33,19 +34,19 @@ bank-whole f p h = omega (arith, length-part f p 34 (bank-head-length f p h))
 
 -- ---- the file's validity, then 33
 
-pub record ValidPlace (f : List ℕ) (n count : ℕ) : Type 0 where
-  pub file : fileRule f ≡ Valid
+pub record ValidPlace (ed : Edition) (f : List ℕ) (n count : ℕ) : Type 0 where
+  pub file : fileRule ed f ≡ Valid
   pub below : n < count
 
-pub place-valid : (f : List ℕ) (n count : ℕ) → placeRule f n count ≡ Valid → ValidPlace f n count
+pub place-valid : (ed : Edition) (f : List ℕ) (n count : ℕ) → placeRule ed f n count ≡ Valid → ValidPlace ed f n count
 unfolding placeRule
-place-valid f n count h =
+place-valid ed f n count h =
     let a = then-valid _ _ h in
     record { file = a .0; below = ltb-true n count (unless-valid (ltb n count) 33 0 (a .1)) }
 
-pub place-passes : (f : List ℕ) (n count : ℕ) → fileRule f ≡ Valid → n < count → placeRule f n count ≡ Valid
+pub place-passes : (ed : Edition) (f : List ℕ) (n count : ℕ) → fileRule ed f ≡ Valid → n < count → placeRule ed f n count ≡ Valid
 unfolding placeRule
-place-passes f n count h g = both-valid _ _ h (unless-passes (ltb n count) 33 0 (lt-ltb n count g))
+place-passes ed f n count h g = both-valid _ _ h (unless-passes (ltb n count) 33 0 (lt-ltb n count g))
 
 -- 33 before a record's own validity; v is that validity
 pub place-below : (n count : ℕ) (v : Validity) → n < count → unless (ltb n count) 33 0 then v ≡ v
@@ -57,28 +58,28 @@ place-past n count v h = rw (le-ltb n count h)
 
 -- ---- a record whose place is valid, with the whole of its bytes
 
-module _ (f : List ℕ) (n count : ℕ) (valid : placeRule f n count ≡ Valid) where
+module _ (ed : Edition) (f : List ℕ) (n count : ℕ) (valid : placeRule ed f n count ≡ Valid) where
   pub placed-contact : count ≡ contactCount f → 39 ≤ length (part f (contactPlace n) 39)
   placed-contact e =
-      let g = place-valid f n count valid in
-      contact-whole f (contactPlace n) (contact-there f n (file-valid f (g .file) .contacts) (omega (arith, g .below)))
+      let g = place-valid ed f n count valid in
+      contact-whole ed f (contactPlace n) (contact-there ed f n (file-valid ed f (g .file) .contacts) (omega (arith, g .below)))
 
   pub placed-channel : count ≡ channelCount f → 90 ≤ length (part f (channelPlace f n) 90)
   placed-channel e =
-      let g = place-valid f n count valid in
-      channel-whole f (channelPlace f n) (channel-there f n (file-valid f (g .file) .channels) (omega (arith, g .below)))
+      let g = place-valid ed f n count valid in
+      channel-whole f (channelPlace f n) (channel-there f n (file-valid ed f (g .file) .channels) (omega (arith, g .below)))
 
   -- its offset leads to it
   pub placed-leads : count ≡ bankCount f → tablePlace f n ≡ bankPlace f n
   placed-leads e =
-      let g = place-valid f n count valid in
-      table-leads f n (file-valid f (g .file) .banks) (omega (arith, g .below))
+      let g = place-valid ed f n count valid in
+      table-leads f n (file-valid ed f (g .file) .banks) (omega (arith, g .below))
 
   pub placed-bank : count ≡ bankCount f → 34 ≤ length (part f (tablePlace f n) 34)
   placed-bank e =
-      let g = place-valid f n count valid in
+      let g = place-valid ed f n count valid in
       rw (placed-leads e)
-      (bank-whole f (bankPlace f n) (bank-valid f n (file-valid f (g .file) .banks) (omega (arith, g .below)) .0))
+      (bank-whole f (bankPlace f n) (bank-valid f n (file-valid ed f (g .file) .banks) (omega (arith, g .below)) .0))
 
 -- ---- a bank of a file that was validated before
 
@@ -127,30 +128,30 @@ unfolding bytesAnswer
 bytes-valid Valid s t h g = h
 bytes-valid (Refused n p) s t h g = never refl g
 
-pub contact-read : (f : List ℕ) (n : ℕ) (v : Validity) (s : List ℕ) → v ≡ placeRule f n (contactCount f)
-    → s ≡ bytesAnswer v (part f (contactPlace n) 39) → contactAnswer v s ≡ contactRead f n
+pub contact-read : (ed : Edition) (f : List ℕ) (n : ℕ) (v : Validity) (s : List ℕ) → v ≡ placeRule ed f n (contactCount f)
+    → s ≡ bytesAnswer v (part f (contactPlace n) 39) → contactAnswer v s ≡ contactRead ed f n
 unfolding contactRead
-contact-read f n v s e h = contact-same v s _ (bytes-valid v s _ h) ∙ rw e
+contact-read ed f n v s e h = contact-same v s _ (bytes-valid v s _ h) ∙ rw e
 
-pub contact-read-prevalidated : (f : List ℕ) (n : ℕ) (v : Validity) (s : List ℕ) → v ≡ contactPrevalidatedRule f n
-    → s ≡ bytesAnswer v (part f (contactPlace n) 39) → contactAnswer v s ≡ contactPrevalidated f n
+pub contact-read-prevalidated : (ed : Edition) (f : List ℕ) (n : ℕ) (v : Validity) (s : List ℕ) → v ≡ contactPrevalidatedRule ed f n
+    → s ≡ bytesAnswer v (part f (contactPlace n) 39) → contactAnswer v s ≡ contactPrevalidated ed f n
 unfolding contactPrevalidated
-contact-read-prevalidated f n v s e h = contact-same v s _ (bytes-valid v s _ h) ∙ rw e
+contact-read-prevalidated ed f n v s e h = contact-same v s _ (bytes-valid v s _ h) ∙ rw e
 
-pub channel-read : (f : List ℕ) (n : ℕ) (v : Validity) (s : List ℕ) → v ≡ placeRule f n (channelCount f)
-    → s ≡ bytesAnswer v (part f (channelPlace f n) 90) → channelAnswer v s ≡ channelRead f n
+pub channel-read : (ed : Edition) (f : List ℕ) (n : ℕ) (v : Validity) (s : List ℕ) → v ≡ placeRule ed f n (channelCount f)
+    → s ≡ bytesAnswer v (part f (channelPlace f n) 90) → channelAnswer v s ≡ channelRead ed f n
 unfolding channelRead
-channel-read f n v s e h = channel-same v s _ (bytes-valid v s _ h) ∙ rw e
+channel-read ed f n v s e h = channel-same v s _ (bytes-valid v s _ h) ∙ rw e
 
 pub channel-read-prevalidated : (f : List ℕ) (n : ℕ) (v : Validity) (s : List ℕ) → v ≡ channelPrevalidatedRule f n
     → s ≡ bytesAnswer v (part f (channelPlace f n) 90) → channelAnswer v s ≡ channelPrevalidated f n
 unfolding channelPrevalidated
 channel-read-prevalidated f n v s e h = channel-same v s _ (bytes-valid v s _ h) ∙ rw e
 
-pub bank-read : (f : List ℕ) (n : ℕ) (v : Validity) (s : List ℕ) → v ≡ placeRule f n (bankCount f)
-    → (v ≡ Valid → BankLed f n) → s ≡ bytesAnswer v (part f (tablePlace f n) 34) → bankAnswer v s ≡ bankRead f n
+pub bank-read : (ed : Edition) (f : List ℕ) (n : ℕ) (v : Validity) (s : List ℕ) → v ≡ placeRule ed f n (bankCount f)
+    → (v ≡ Valid → BankLed f n) → s ≡ bytesAnswer v (part f (tablePlace f n) 34) → bankAnswer v s ≡ bankRead ed f n
 unfolding bankRead
-bank-read f n v s e led h = bank-same v s _ (λ g. bytes-valid v s _ h g ∙ ap (λ (p : ℕ). part f p 34) (led g .1)) ∙ rw e
+bank-read ed f n v s e led h = bank-same v s _ (λ g. bytes-valid v s _ h g ∙ ap (λ (p : ℕ). part f p 34) (led g .1)) ∙ rw e
 
 pub bank-read-prevalidated : (f : List ℕ) (n : ℕ) (v : Validity) (s : List ℕ) → v ≡ bankPrevalidatedRule f n
     → s ≡ bytesAnswer v (part f (tablePlace f n) 34) → bankAnswer v s ≡ bankPrevalidated f n

@@ -2,3 +2,4 @@
 pub mod Laws
 pub mod Prevalidated
 pub mod AcceptedFile
+pub mod Editions

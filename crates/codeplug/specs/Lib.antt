@@ -2,3 +2,4 @@
 pub mod Read
 pub mod Prevalidated
 pub mod There
+pub mod Editions

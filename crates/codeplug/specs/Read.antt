@@ -6,6 +6,7 @@ use Rattle.fields.specs.Bytes.{part, num, zeros}
 use Rattle.fields.specs.Rule.{_then_, unless}
 use Rattle.fields.specs.declared.rule.Validity.{Validity}
 use Rattle.fields.specs.declared.rule.Validity.the-variants.{Valid, Refused}
+use Rattle.m17.specs.declared.Edition.{Edition}
 use Rattle.contact.specs.Contact.{contactAnswer}
 use Rattle.contact.specs.declared.ContactRead.{ContactRead}
 use Rattle.channel_reader.specs.Reading.{channelAnswer}
@@ -35,8 +36,8 @@ unfoldable pub headerAnswer : Validity → List ℕ → HeaderRead
 headerAnswer Valid f = record { validity = Valid; header = headerOf f }
 headerAnswer (Refused n p) f = record { validity = Refused n p; header = blankHeader }
 
-unfoldable pub headerRead : List ℕ → HeaderRead
-headerRead f = headerAnswer (fileRule f) f
+unfoldable pub headerRead : Edition → List ℕ → HeaderRead
+headerRead e f = headerAnswer (fileRule e f) f
 
 -- ---- record n of a file
 
@@ -46,14 +47,14 @@ bytesAnswer Valid s = s
 bytesAnswer (Refused n p) s = []
 
 -- the file's refusal, then 33 where there is no place n below the count
-unfoldable pub placeRule : List ℕ → ℕ → ℕ → Validity
-placeRule f n count = fileRule f then unless (ltb n count) 33 0
+unfoldable pub placeRule : Edition → List ℕ → ℕ → ℕ → Validity
+placeRule e f n count = fileRule e f then unless (ltb n count) 33 0
 
-unfoldable pub contactRead : List ℕ → ℕ → ContactRead
-contactRead f n = contactAnswer (placeRule f n (contactCount f)) (part f (contactPlace n) 39)
+unfoldable pub contactRead : Edition → List ℕ → ℕ → ContactRead
+contactRead e f n = contactAnswer (placeRule e f n (contactCount f)) (part f (contactPlace n) 39)
 
-unfoldable pub channelRead : List ℕ → ℕ → ChannelRead
-channelRead f n = channelAnswer (placeRule f n (channelCount f)) (part f (channelPlace f n) 90)
+unfoldable pub channelRead : Edition → List ℕ → ℕ → ChannelRead
+channelRead e f n = channelAnswer (placeRule e f n (channelCount f)) (part f (channelPlace f n) 90)
 
 -- ---- bank n: its name and its entry count
 
@@ -67,8 +68,8 @@ unfoldable pub bankAnswer : Validity → List ℕ → BankRead
 bankAnswer Valid s = record { validity = Valid; bank = bankOf s }
 bankAnswer (Refused n p) s = record { validity = Refused n p; bank = blankBank }
 
-unfoldable pub bankRead : List ℕ → ℕ → BankRead
-bankRead f n = bankAnswer (placeRule f n (bankCount f)) (part f (bankPlace f n) 34)
+unfoldable pub bankRead : Edition → List ℕ → ℕ → BankRead
+bankRead e f n = bankAnswer (placeRule e f n (bankCount f)) (part f (bankPlace f n) 34)
 
 -- ---- bank entries, one at a time
 
@@ -77,13 +78,13 @@ unfoldable pub entriesAnswer : Validity → List ℕ → ℕ → List ℕ
 entriesAnswer Valid f p = part f (p + 34) (entryCount f p * 2)
 entriesAnswer (Refused n q) f p = []
 
-unfoldable pub entriesRead : List ℕ → ℕ → List ℕ
-entriesRead f n = entriesAnswer (placeRule f n (bankCount f)) f (bankPlace f n)
+unfoldable pub entriesRead : Edition → List ℕ → ℕ → List ℕ
+entriesRead e f n = entriesAnswer (placeRule e f n (bankCount f)) f (bankPlace f n)
 
 -- entry i of bank n: the file's refusal, then 33
 unfoldable pub entryAnswer : Validity → List ℕ → ℕ → EntryStep
 entryAnswer Valid s i = entryStep s i
 entryAnswer (Refused n p) s i = step.Refused n p
 
-unfoldable pub entryRead : List ℕ → ℕ → ℕ → EntryStep
-entryRead f n i = entryAnswer (placeRule f n (bankCount f)) (entriesRead f n) i
+unfoldable pub entryRead : Edition → List ℕ → ℕ → ℕ → EntryStep
+entryRead e f n i = entryAnswer (placeRule e f n (bankCount f)) (entriesRead e f n) i

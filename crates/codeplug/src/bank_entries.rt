@@ -9,6 +9,7 @@ use layout::places::entry_count;
 use layout::places::offset_place;
 use layout::places::offset_target;
 use layout::places::record_bytes;
+use m17::Edition;
 ghost use mathlib.Core.Path.{_≡_};
 ghost use Prim.Native.Nat.{_<_, _^_};
 ghost use Rattle.codeplug.specs.Read.{entriesAnswer, entriesRead, entryRead};
@@ -25,10 +26,10 @@ pub fn entries_of(validity: Validity, f: &[u8], p: usize) -> &[u8]
 }
 
 // The bytes of bank n's entries in an accepted file; none where the file or the place is refused.
-pub fn entries(f: &[u8], n: usize) -> &[u8]
-    ensures { λ r. ⌜ now r ≡ entriesRead (now (f .entry)) n ⌝ }
+pub fn entries(f: &[u8], n: usize, edition: Edition) -> &[u8]
+    ensures { λ r. ⌜ now r ≡ entriesRead edition (now (f .entry)) n ⌝ }
 {
-    let validity = place(f, n, bank_count(f));
+    let validity = place(f, n, bank_count(f), edition);
     if let Validity::Refused(_, _) = validity {
         return entries_of(validity, f, 0);
     }
@@ -36,10 +37,10 @@ pub fn entries(f: &[u8], n: usize) -> &[u8]
 }
 
 // Entry i of bank n: the file's refusal, then 33.
-pub fn entry(f: &[u8], n: usize, i: usize) -> EntryStep
-    ensures { λ r. ⌜ r ≡ entryRead (now (f .entry)) n i ⌝ }
+pub fn entry(f: &[u8], n: usize, i: usize, edition: Edition) -> EntryStep
+    ensures { λ r. ⌜ r ≡ entryRead edition (now (f .entry)) n i ⌝ }
 {
-    let validity = place(f, n, bank_count(f));
+    let validity = place(f, n, bank_count(f), edition);
     match validity {
         Validity::Valid => entries::walked(
             entries_of(validity, f, offset_target(f, offset_place(f, n))),

@@ -21,6 +21,7 @@ use layout::places::bank_count;
 use layout::places::channel_count;
 use layout::places::contact_count;
 use layout::places::counts_of;
+use m17::Edition;
 use validation::validity_of;
 ghost use mathlib.Core.Path.{_≡_};
 ghost use Prim.Native.Nat.{_≤_, _<_};
@@ -79,48 +80,48 @@ pub fn header_answer(validity: Validity, f: &[u8]) -> HeaderRead
 }
 
 // The file's validity, which is the header's.
-pub fn header_validity(f: &[u8]) -> Validity
-    ensures { λ r. ⌜ (r ≡ fileRule (now (f .entry))) × (r ≡ Validity.Valid → 88 ≤ length (now (f .entry))) ⌝ }
+pub fn header_validity(f: &[u8], edition: Edition) -> Validity
+    ensures { λ r. ⌜ (r ≡ fileRule edition (now (f .entry))) × (r ≡ Validity.Valid → 88 ≤ length (now (f .entry))) ⌝ }
 {
-    validity_of(f)
+    validity_of(f, edition)
 }
 
-pub fn header(f: &[u8]) -> HeaderRead
-    ensures { λ r. ⌜ r ≡ headerRead (now (f .entry)) ⌝ }
+pub fn header(f: &[u8], edition: Edition) -> HeaderRead
+    ensures { λ r. ⌜ r ≡ headerRead edition (now (f .entry)) ⌝ }
 {
-    header_answer(header_validity(f), f)
+    header_answer(header_validity(f, edition), f)
 }
 
 // The file's refusal, then 33 unless n is below the count.
-pub(crate) fn place(f: &[u8], n: usize, count: usize) -> Validity
-    ensures { λ r. ⌜ r ≡ placeRule (now (f .entry)) n count ⌝ }
+pub(crate) fn place(f: &[u8], n: usize, count: usize, edition: Edition) -> Validity
+    ensures { λ r. ⌜ r ≡ placeRule edition (now (f .entry)) n count ⌝ }
 {
-    first(validity_of(f), unless(n < count, NO_PLACE, 0))
+    first(validity_of(f, edition), unless(n < count, NO_PLACE, 0))
 }
 
-pub fn contact_validity(f: &[u8], n: usize) -> Validity
-    ensures { λ r. ⌜ (r ≡ placeRule (now (f .entry)) n (contactCount (now (f .entry)))) × (r ≡ Validity.Valid → ContactThere (now (f .entry)) n) ⌝ }
+pub fn contact_validity(f: &[u8], n: usize, edition: Edition) -> Validity
+    ensures { λ r. ⌜ (r ≡ placeRule edition (now (f .entry)) n (contactCount (now (f .entry)))) × (r ≡ Validity.Valid → ContactThere (now (f .entry)) n) ⌝ }
 {
-    place(f, n, contact_count(f))
+    place(f, n, contact_count(f), edition)
 }
 
-pub fn contact(f: &[u8], n: usize) -> ContactRead
-    ensures { λ r. ⌜ r ≡ contactRead (now (f .entry)) n ⌝ }
+pub fn contact(f: &[u8], n: usize, edition: Edition) -> ContactRead
+    ensures { λ r. ⌜ r ≡ contactRead edition (now (f .entry)) n ⌝ }
 {
-    let validity = contact_validity(f, n);
+    let validity = contact_validity(f, n, edition);
     contact_reader::answer(validity, contact_bytes(f, n, validity))
 }
 
-pub fn channel_validity(f: &[u8], n: usize) -> Validity
-    ensures { λ r. ⌜ (r ≡ placeRule (now (f .entry)) n (channelCount (now (f .entry)))) × (r ≡ Validity.Valid → ChannelThere (now (f .entry)) n) ⌝ }
+pub fn channel_validity(f: &[u8], n: usize, edition: Edition) -> Validity
+    ensures { λ r. ⌜ (r ≡ placeRule edition (now (f .entry)) n (channelCount (now (f .entry)))) × (r ≡ Validity.Valid → ChannelThere (now (f .entry)) n) ⌝ }
 {
-    place(f, n, channel_count(f))
+    place(f, n, channel_count(f), edition)
 }
 
-pub fn channel(f: &[u8], n: usize) -> ChannelRead
-    ensures { λ r. ⌜ r ≡ channelRead (now (f .entry)) n ⌝ }
+pub fn channel(f: &[u8], n: usize, edition: Edition) -> ChannelRead
+    ensures { λ r. ⌜ r ≡ channelRead edition (now (f .entry)) n ⌝ }
 {
-    let validity = channel_validity(f, n);
+    let validity = channel_validity(f, n, edition);
     channel_reader::answer(validity, channel_bytes(f, n, validity))
 }
 
@@ -160,16 +161,16 @@ pub fn bank_answer(validity: Validity, s: &[u8]) -> BankRead
     }
 }
 
-pub fn bank_validity(f: &[u8], n: usize) -> Validity
-    ensures { λ r. ⌜ (r ≡ placeRule (now (f .entry)) n (bankCount (now (f .entry)))) × (r ≡ Validity.Valid → BankLed (now (f .entry)) n) ⌝ }
+pub fn bank_validity(f: &[u8], n: usize, edition: Edition) -> Validity
+    ensures { λ r. ⌜ (r ≡ placeRule edition (now (f .entry)) n (bankCount (now (f .entry)))) × (r ≡ Validity.Valid → BankLed (now (f .entry)) n) ⌝ }
 {
-    place(f, n, bank_count(f))
+    place(f, n, bank_count(f), edition)
 }
 
 // The name and entry count of bank n. Of an accepted file the offset table leads to each bank.
-pub fn bank(f: &[u8], n: usize) -> BankRead
-    ensures { λ r. ⌜ r ≡ bankRead (now (f .entry)) n ⌝ }
+pub fn bank(f: &[u8], n: usize, edition: Edition) -> BankRead
+    ensures { λ r. ⌜ r ≡ bankRead edition (now (f .entry)) n ⌝ }
 {
-    let validity = bank_validity(f, n);
+    let validity = bank_validity(f, n, edition);
     bank_answer(validity, bank_bytes(f, n, validity))
 }

@@ -1,7 +1,8 @@
 // Validates the codeplug on standard input and prints one line: "ok", with the counts of contacts, channels and banks, or the refusal
-// and its place. It takes at most 65,536 bytes.
+// and its place. It takes at most 65,536 bytes, and reads addresses by the older edition.
 use libc::STDIN_FILENO;
 use libc::STDOUT_FILENO;
+use m17::Edition;
 use validation::Validated;
 
 fn print_refusal(number: u8, place: usize) {
@@ -43,5 +44,5 @@ fn main() {
         print_refusal(1, 0);
         return;
     }
-    print_validated(validation::validate(&buffer[..n]));
+    print_validated(validation::validate(&buffer[..n], Edition::Older));
 }

@@ -22,6 +22,7 @@ use Rattle.text.proofs.Laws.{length-padded, givenOk-length}
 use Rattle.bits.specs.Packed.{numberFlagOk, numberFlagByte, numberFlagValid}
 use Rattle.m17.specs.Address.{addressOk, addressNumber, addressValid}
 use Rattle.m17.specs.declared.Address.{Address}
+use Rattle.m17.specs.declared.Edition.{Edition}
 use Rattle.contact.specs.declared.ContactInfo.{ContactInfo}
 use Rattle.contact.specs.declared.ContactInfo.the-variants.{M17, Dmr}
 use Rattle.contact.specs.declared.DmrContact.{DmrContact}
@@ -37,13 +38,13 @@ pub record ValidDmr (s : List ℕ) : Type 0 where
   pub settings : numberFlagOk (getD s 37 0) ≡ true
   pub pad : getD s 38 0 ≡ 0
 
-pub record ValidM17 (s : List ℕ) : Type 0 where
+pub record ValidM17 (ed : Edition) (s : List ℕ) : Type 0 where
   pub whole : 39 ≤ length s
   pub mode : getD s 32 0 ≡ 2
-  pub address : addressOk (big (part s 33 6)) ≡ true
+  pub address : addressOk ed (big (part s 33 6)) ≡ true
 
-abbrev pub ValidInfo : List ℕ → Type 0
-ValidInfo s = ValidDmr s ⊎ ValidM17 s
+abbrev pub ValidInfo : (ed : Edition) → List ℕ → Type 0
+ValidInfo ed s = ValidDmr s ⊎ ValidM17 ed s
 
 dmr-valid : (s : List ℕ) (base : ℕ) → getD s 32 0 ≡ 1 → dmrRule s base ≡ Valid → ValidDmr s
 unfolding dmrRule
@@ -54,31 +55,31 @@ dmr-valid s base m h =
     let pad = field-valid _ _ _ _ _ _ (b .1) in
     record { whole = pad .0; mode = m; settings = set .1; pad = eqb-true _ _ (pad .1) }
 
-m17-valid : (s : List ℕ) (base : ℕ) → getD s 32 0 ≡ 2 → m17Rule s base ≡ Valid → ValidM17 s
+m17-valid : (ed : Edition) (s : List ℕ) (base : ℕ) → getD s 32 0 ≡ 2 → m17Rule ed s base ≡ Valid → ValidM17 ed s
 unfolding m17Rule
-m17-valid s base m h = let a = field-valid _ _ _ _ _ _ h in record { whole = a .0; mode = m; address = a .1 }
+m17-valid ed s base m h = let a = field-valid _ _ _ _ _ _ h in record { whole = a .0; mode = m; address = a .1 }
 
-info-valid : (s : List ℕ) (base : ℕ) (t : Bool) → eqb (getD s 32 0) 1 ≡ t → modeOk (getD s 32 0) ≡ true
-    → cond t (dmrRule s base) (m17Rule s base) ≡ Valid → ValidInfo s
+info-valid : (ed : Edition) (s : List ℕ) (base : ℕ) (t : Bool) → eqb (getD s 32 0) 1 ≡ t → modeOk (getD s 32 0) ≡ true
+    → cond t (dmrRule s base) (m17Rule ed s base) ≡ Valid → ValidInfo ed s
 unfolding modeOk
-info-valid s base true e m h = inl (dmr-valid s base (eqb-true _ _ e) h)
-info-valid s base false e m h = inr (m17-valid s base (eqb-true _ _ (rw e at m)) h)
+info-valid ed s base true e m h = inl (dmr-valid s base (eqb-true _ _ e) h)
+info-valid ed s base false e m h = inr (m17-valid ed s base (eqb-true _ _ (rw e at m)) h)
 
-pub contact-valid : (s : List ℕ) (base : ℕ) → contactRule s base ≡ Valid → (textOk (part s 0 32) ≡ true) × ValidInfo s
+pub contact-valid : (ed : Edition) (s : List ℕ) (base : ℕ) → contactRule ed s base ≡ Valid → (textOk (part s 0 32) ≡ true) × ValidInfo ed s
 unfolding contactRule
-contact-valid s base h =
+contact-valid ed s base h =
     let a = then-valid _ _ h in
     let b = then-valid _ _ (a .1) in
     let name = field-valid _ _ _ _ _ _ (a .0) in
     let mode = field-valid _ _ _ _ _ _ (b .0) in
-    (name .1, info-valid s base (eqb (getD s 32 0) 1) refl (mode .1) (b .1))
+    (name .1, info-valid ed s base (eqb (getD s 32 0) 1) refl (mode .1) (b .1))
 
 -- ---- and what makes it so
 
 module _ (s : List ℕ) (base : ℕ) (text : textOk (part s 0 32) ≡ true) where
-  pub dmr-passes : ValidDmr s → contactRule s base ≡ Valid
+  pub dmr-passes : (ed : Edition) → ValidDmr s → contactRule ed s base ≡ Valid
   unfolding contactRule modeOk dmrRule
-  dmr-passes g =
+  dmr-passes ed g =
       let w = g .whole in
       let m = eq-eqb _ 1 (g .mode) in
       both-valid _ _ (field-passes _ _ _ _ _ _ (omega arith) text)
@@ -88,9 +89,9 @@ module _ (s : List ℕ) (base : ℕ) (text : textOk (part s 0 32) ≡ true) wher
       (both-valid _ _ (field-passes _ _ _ _ _ _ (omega arith) (g .settings))
       (field-passes _ _ _ _ _ _ w (eq-eqb _ 0 (g .pad)))))))
 
-  pub m17-passes : ValidM17 s → contactRule s base ≡ Valid
+  pub m17-passes : (ed : Edition) → ValidM17 ed s → contactRule ed s base ≡ Valid
   unfolding contactRule modeOk m17Rule
-  m17-passes g =
+  m17-passes ed g =
       let w = g .whole in
       both-valid _ _ (field-passes _ _ _ _ _ _ (omega arith) text)
       (both-valid _ _ (field-passes _ _ _ _ _ _ (omega arith) (rw (g .mode)))
@@ -98,27 +99,27 @@ module _ (s : List ℕ) (base : ℕ) (text : textOk (part s 0 32) ≡ true) wher
 
 -- ---- what a writer accepts
 
-pub given-valid : (room : ℕ) (name : List ℕ) (info : ContactInfo) → contactWriteRule room name info ≡ Valid
-    → (39 ≤ room) × (givenOk name ≡ true) × (infoWriteRule info ≡ Valid)
+pub given-valid : (ed : Edition) (room : ℕ) (name : List ℕ) (info : ContactInfo) → contactWriteRule ed room name info ≡ Valid
+    → (39 ≤ room) × (givenOk name ≡ true) × (infoWriteRule ed info ≡ Valid)
 unfolding contactWriteRule
-given-valid room name info h =
+given-valid ed room name info h =
     let a = then-valid _ _ h in
     let b = then-valid _ _ (a .1) in
     (leb-true 39 room (unless-valid _ _ _ (a .0)), unless-valid _ _ _ (b .0), b .1)
 
-pub rule-passes : (room : ℕ) (name : List ℕ) (info : ContactInfo) → 39 ≤ room → givenOk name ≡ true → infoWriteRule info ≡ Valid
-    → contactWriteRule room name info ≡ Valid
+pub rule-passes : (ed : Edition) (room : ℕ) (name : List ℕ) (info : ContactInfo) → 39 ≤ room → givenOk name ≡ true → infoWriteRule ed info ≡ Valid
+    → contactWriteRule ed room name info ≡ Valid
 unfolding contactWriteRule
-rule-passes room name info r n i =
+rule-passes ed room name info r n i =
     both-valid _ _ (unless-passes _ 25 0 (le-leb 39 room r)) (both-valid _ _ (unless-passes _ 5 0 n) i)
 
-pub m17-writable : (a : Address) → infoWriteRule (M17 a) ≡ Valid → addressValid a ≡ true
+pub m17-writable : (ed : Edition) (a : Address) → infoWriteRule ed (M17 a) ≡ Valid → addressValid ed a ≡ true
 unfolding infoWriteRule
-m17-writable a h = unless-valid _ _ _ h
+m17-writable ed a h = unless-valid _ _ _ h
 
-pub dmr-writable : (d : DmrContact) → infoWriteRule (Dmr d) ≡ Valid → numberFlagValid (settingsNumberFlag (d .settings)) ≡ true
+pub dmr-writable : (ed : Edition) (d : DmrContact) → infoWriteRule ed (Dmr d) ≡ Valid → numberFlagValid (settingsNumberFlag (d .settings)) ≡ true
 unfolding infoWriteRule
-dmr-writable d h = unless-valid _ _ _ h
+dmr-writable ed d h = unless-valid _ _ _ h
 
 -- ---- the writer's steps
 
@@ -218,20 +219,20 @@ module _ (s : List ℕ) (base : ℕ) where
         getD-record s 38 (omega arith),
       )
 
-  m17-take : m17Rule (take 39 s) base ≡ m17Rule s base
+  m17-take : (ed : Edition) → m17Rule ed (take 39 s) base ≡ m17Rule ed s base
   unfolding m17Rule
-  m17-take = rw (field-take s 39 base 33 6 8 _ (omega arith), part-record s 33 6 (omega arith))
+  m17-take ed = rw (field-take s 39 base 33 6 8 _ (omega arith), part-record s 33 6 (omega arith))
 
-  pub rule-take : contactRule (take 39 s) base ≡ contactRule s base
+  pub rule-take : (ed : Edition) → contactRule ed (take 39 s) base ≡ contactRule ed s base
   unfolding contactRule
-  rule-take =
+  rule-take ed =
       rw (
         field-take s 39 base 0 32 5 _ (omega arith),
         field-take s 39 base 32 1 6 _ (omega arith),
         part-record s 0 32 (omega arith),
         getD-record s 32 (omega arith),
         dmr-take,
-        m17-take,
+        m17-take ed,
       )
 
 pub value-take : (s : List ℕ) → contactOf (take 39 s) ≡ contactOf s

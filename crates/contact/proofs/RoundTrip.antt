@@ -22,6 +22,7 @@ use Rattle.bits.proofs.Laws.{number-flag-returns, number-flag-ok, numberFlagByt
 use Rattle.m17.specs.Address.{addressFor, addressNumber, addressValid}
 use Rattle.m17.specs.declared.Address.{Address}
 use Rattle.m17.proofs.Laws.{addressNumber-for, addressFor-number, addressValid-for, addressOk-number, addressNumber-lt}
+use Rattle.m17.specs.declared.Edition.{Edition}
 use Rattle.contact.specs.declared.Settings.{Settings}
 use Rattle.contact.specs.declared.DmrContact.{DmrContact}
 use Rattle.contact.specs.declared.ContactInfo.{ContactInfo}
@@ -33,8 +34,8 @@ use Rattle.contact.proofs.Laws.{given-valid, rule-passes, m17-writable,
 
 -- ---- a valid record has all its bytes
 
-pub valid-length : (s : List ℕ) (base : ℕ) → contactRule s base ≡ Valid → 39 ≤ length s
-valid-length s base h = ⊎-elim (λ d. d .whole) (λ m. m .whole) (contact-valid s base h .1)
+pub valid-length : (ed : Edition) (s : List ℕ) (base : ℕ) → contactRule ed s base ≡ Valid → 39 ≤ length s
+valid-length ed s base h = ⊎-elim (λ d. d .whole) (λ m. m .whole) (contact-valid ed s base h .1)
 
 -- ---- write, then read
 
@@ -68,12 +69,12 @@ module _ (name : List ℕ) (given : givenOk name ≡ true) where
   text-back : (b : List ℕ) → textOk (part (padded name ++ b) 0 32) ≡ true
   text-back b = rw (name-back b) (textOk-padded name given)
 
-  m17-back : (a : Address) → addressValid a ≡ true → big (part (padded name ++ infoBytes (M17 a)) 33 6) ≡ addressNumber a
+  m17-back : (ed : Edition) (a : Address) → addressValid ed a ≡ true → big (part (padded name ++ infoBytes (M17 a)) 33 6) ≡ addressNumber a
   unfolding infoBytes
-  m17-back a g =
+  m17-back ed a g =
       let n = addressNumber a in
       ap (λ (l : List ℕ). big l) (part-skip long-name (2 ∷ bigBytes 6 n) 1 6 ∙ part-all (bigBytes 6 n) 6 (omega (arith, length-bigBytes 6 n)))
-      ∙ big-bigBytes 6 n (addressNumber-lt a g)
+      ∙ big-bigBytes 6 n (addressNumber-lt ed a g)
 
   id-back : (d : DmrContact) → d .id < 2 ^ 32 → num (padded name ++ infoBytes (Dmr d)) 33 4 ≡ d .id
   unfolding infoBytes
@@ -105,46 +106,46 @@ module _ (name : List ℕ) (given : givenOk name ≡ true) where
   unfolding contactBytes
   whole info = omega (arith, length-contactBytes name info (givenOk-length name given))
 
-  rule-back : (base : ℕ) (info : ContactInfo) → infoWriteRule info ≡ Valid → contactRule (padded name ++ infoBytes info) base ≡ Valid
-  rule-back base (M17 a) i =
-      let g = m17-writable a i in
-      m17-passes _ base (text-back _)
-      (record { whole = whole (M17 a); mode = mode-m17 a; address = rw (m17-back a g) (addressOk-number a g) })
-  rule-back base (Dmr d) i =
-      dmr-passes _ base (text-back _)
+  rule-back : (ed : Edition) (base : ℕ) (info : ContactInfo) → infoWriteRule ed info ≡ Valid → contactRule ed (padded name ++ infoBytes info) base ≡ Valid
+  rule-back ed base (M17 a) i =
+      let g = m17-writable ed a i in
+      m17-passes _ base (text-back _) ed
+      (record { whole = whole (M17 a); mode = mode-m17 a; address = rw (m17-back ed a g) (addressOk-number ed a g) })
+  rule-back ed base (Dmr d) i =
+      dmr-passes _ base (text-back _) ed
       (record {
         whole = whole (Dmr d);
         mode = mode-dmr d;
-        settings = rw (settings-back d) (number-flag-ok _ (dmr-writable d i));
+        settings = rw (settings-back d) (number-flag-ok _ (dmr-writable ed d i));
         pad = pad-back d;
       })
 
-  info-back : (info : ContactInfo) → IdFits info → infoWriteRule info ≡ Valid → infoOf (padded name ++ infoBytes info) ≡ info
+  info-back : (ed : Edition) (info : ContactInfo) → IdFits info → infoWriteRule ed info ≡ Valid → infoOf (padded name ++ infoBytes info) ≡ info
   unfolding infoOf
-  info-back (M17 a) f i =
-      let g = m17-writable a i in
-      rw (mode-m17 a, m17-back a g, addressFor-number a g)
-  info-back (Dmr d) f i =
-      rw (mode-dmr d, id-back d f, settings-back d, settings-number-flag (d .settings) (number-flag-returns _ (dmr-writable d i)))
+  info-back ed (M17 a) f i =
+      let g = m17-writable ed a i in
+      rw (mode-m17 a, m17-back ed a g, addressFor-number ed a g)
+  info-back ed (Dmr d) f i =
+      rw (mode-dmr d, id-back d f, settings-back d, settings-number-flag (d .settings) (number-flag-returns _ (dmr-writable ed d i)))
 
 -- a written record has 39 bytes
-pub record-length : (name : List ℕ) (info : ContactInfo) → contactWriteRule 39 name info ≡ Valid → length (contactBytes name info) ≡ 39
-record-length name info h = length-contactBytes name info (givenOk-length name (given-valid 39 name info h .1))
+pub record-length : (ed : Edition) (name : List ℕ) (info : ContactInfo) → contactWriteRule ed 39 name info ≡ Valid → length (contactBytes name info) ≡ 39
+record-length ed name info h = length-contactBytes name info (givenOk-length name (given-valid ed 39 name info h .1))
 
 -- it is valid wherever it stands in a file
-pub record-valid : (name : List ℕ) (info : ContactInfo) (base : ℕ) → contactWriteRule 39 name info ≡ Valid
-    → contactRule (contactBytes name info) base ≡ Valid
+pub record-valid : (ed : Edition) (name : List ℕ) (info : ContactInfo) (base : ℕ) → contactWriteRule ed 39 name info ≡ Valid
+    → contactRule ed (contactBytes name info) base ≡ Valid
 unfolding contactBytes
-record-valid name info base h = let g = given-valid 39 name info h in rule-back name (g .1) base info (g .2)
+record-valid ed name info base h = let g = given-valid ed 39 name info h in rule-back name (g .1) ed base info (g .2)
 
 -- a value that is written is read again
-pub write-then-read : (name : List ℕ) (info : ContactInfo) → IdFits info → contactWriteRule 39 name info ≡ Valid
-    → (contactRule (contactBytes name info) 0 ≡ Valid)
+pub write-then-read : (ed : Edition) (name : List ℕ) (info : ContactInfo) → IdFits info → contactWriteRule ed 39 name info ≡ Valid
+    → (contactRule ed (contactBytes name info) 0 ≡ Valid)
     × (contactOf (contactBytes name info) ≡ record { name = padded name; info = info })
 unfolding contactOf contactBytes
-write-then-read name info fits h =
-    let g = given-valid 39 name info h in
-    (record-valid name info 0 h, rw (name-back name (g .1) (infoBytes info), info-back name (g .1) info fits (g .2)))
+write-then-read ed name info fits h =
+    let g = given-valid ed 39 name info h in
+    (record-valid ed name info 0 h, rw (name-back name (g .1) (infoBytes info), info-back name (g .1) ed info fits (g .2)))
 
 -- ---- read, then write
 
@@ -183,66 +184,66 @@ dmr-bytes s b g =
       g .pad,
     )
 
-m17-bytes : (s : List ℕ) → AllBytes s → ValidM17 s → infoBytes (infoOf s) ≡ getD s 32 0 ∷ part s 33 6
+m17-bytes : (ed : Edition) (s : List ℕ) → AllBytes s → ValidM17 ed s → infoBytes (infoOf s) ≡ getD s 32 0 ∷ part s 33 6
 unfolding infoBytes infoOf
-m17-bytes s b g = rw (g .mode, addressNumber-for (big (part s 33 6)), address-bytes s (g .whole) b)
+m17-bytes ed s b g = rw (g .mode, addressNumber-for (big (part s 33 6)), address-bytes s (g .whole) b)
 
-dmr-info-given : (s : List ℕ) → ValidDmr s → infoWriteRule (infoOf s) ≡ Valid
+dmr-info-given : (ed : Edition) (s : List ℕ) → ValidDmr s → infoWriteRule ed (infoOf s) ≡ Valid
 unfolding infoWriteRule infoOf
-dmr-info-given s g =
+dmr-info-given ed s g =
     rw (g .mode, number-flag-settings (getD s 37 0)) (unless-passes _ 7 37 (numberFlagValid-of (getD s 37 0) (g .settings)))
 
-m17-info-given : (s : List ℕ) → ValidM17 s → infoWriteRule (infoOf s) ≡ Valid
+m17-info-given : (ed : Edition) (s : List ℕ) → ValidM17 ed s → infoWriteRule ed (infoOf s) ≡ Valid
 unfolding infoWriteRule infoOf
-m17-info-given s g = rw (g .mode) (unless-passes _ 8 33 (addressValid-for (big (part s 33 6)) (g .address)))
+m17-info-given ed s g = rw (g .mode) (unless-passes _ 8 33 (addressValid-for ed (big (part s 33 6)) (g .address)))
 
 -- a valid record's values are accepted, and written they are the record again
-pub read-then-write : (s : List ℕ) (base : ℕ) → AllBytes s → contactRule s base ≡ Valid
-    → (contactWriteRule 39 (textOf (contactOf s .name)) (contactOf s .info) ≡ Valid)
+pub read-then-write : (ed : Edition) (s : List ℕ) (base : ℕ) → AllBytes s → contactRule ed s base ≡ Valid
+    → (contactWriteRule ed 39 (textOf (contactOf s .name)) (contactOf s .info) ≡ Valid)
     × (contactBytes (textOf (contactOf s .name)) (contactOf s .info) ≡ take 39 s)
 unfolding contactOf contactBytes
-read-then-write s base b h =
-    let g = contact-valid s base h in
-    let w = valid-length s base h in
-    let given = ⊎-elim (dmr-info-given s) (m17-info-given s) (g .1) in
-    let bytes = ⊎-elim (dmr-bytes s b) (m17-bytes s b) (g .1) in (
-      rule-passes 39 (textOf (part s 0 32)) (infoOf s) (omega arith) (name-given s w (g .0)) given,
+read-then-write ed s base b h =
+    let g = contact-valid ed s base h in
+    let w = valid-length ed s base h in
+    let given = ⊎-elim (dmr-info-given ed s) (m17-info-given ed s) (g .1) in
+    let bytes = ⊎-elim (dmr-bytes s b) (m17-bytes ed s b) (g .1) in (
+      rule-passes ed 39 (textOf (part s 0 32)) (infoOf s) (omega arith) (name-given s w (g .0)) given,
       rw (name-bytes s w (g .0), bytes) (sym (info-part s w)),
     )
 
 -- ---- what a writer refuses
 
-info-all-bytes : (info : ContactInfo) → infoWriteRule info ≡ Valid → AllBytes (infoBytes info)
+info-all-bytes : (ed : Edition) (info : ContactInfo) → infoWriteRule ed info ≡ Valid → AllBytes (infoBytes info)
 unfolding infoBytes
-info-all-bytes (M17 a) i = bytes-cons 2 (bigBytes 6 (addressNumber a)) (omega arith) (bytes-bigBytes 6 (addressNumber a))
-info-all-bytes (Dmr d) i =
+info-all-bytes ed (M17 a) i = bytes-cons 2 (bigBytes 6 (addressNumber a)) (omega arith) (bytes-bigBytes 6 (addressNumber a))
+info-all-bytes ed (Dmr d) i =
     let b = numberFlagByte (settingsNumberFlag (d .settings)) in
     bytes-cons 1 (littleBytes 4 (d .id) ++ (b ∷ 0 ∷ [])) (omega arith)
     (bytes-append (littleBytes 4 (d .id)) (b ∷ 0 ∷ []) (bytes-littleBytes 4 (d .id))
-    (bytes-cons b (0 ∷ []) (numberFlagByte-lt _ (dmr-writable d i)) (bytes-cons 0 [] (omega arith) bytes-nil)))
+    (bytes-cons b (0 ∷ []) (numberFlagByte-lt _ (dmr-writable ed d i)) (bytes-cons 0 [] (omega arith) bytes-nil)))
 
 -- a written record's bytes are bytes
-pub record-all-bytes : (name : List ℕ) (info : ContactInfo) → contactWriteRule 39 name info ≡ Valid → AllBytes (contactBytes name info)
+pub record-all-bytes : (ed : Edition) (name : List ℕ) (info : ContactInfo) → contactWriteRule ed 39 name info ≡ Valid → AllBytes (contactBytes name info)
 unfolding contactBytes padded
-record-all-bytes name info h =
-    let g = given-valid 39 name info h in
+record-all-bytes ed name info h =
+    let g = given-valid ed 39 name info h in
     bytes-append (padded name) (infoBytes info)
     (bytes-append name (zeros (32 - length name)) (plainText-bytes name (givenOk-plain name (g .1))) (bytes-zeros (32 - length name)))
-    (info-all-bytes info (g .2))
+    (info-all-bytes ed info (g .2))
 
 -- a writer accepts exactly the values that some valid record holds
-pub accepted-exactly : (name : List ℕ) (info : ContactInfo) → IdFits info
-    → (contactWriteRule 39 name info ≡ Valid)
-    ↔ ((s : List ℕ) × AllBytes s × (contactRule s 0 ≡ Valid) × (textOf (part s 0 32) ≡ name) × (infoOf s ≡ info))
+pub accepted-exactly : (ed : Edition) (name : List ℕ) (info : ContactInfo) → IdFits info
+    → (contactWriteRule ed 39 name info ≡ Valid)
+    ↔ ((s : List ℕ) × AllBytes s × (contactRule ed s 0 ≡ Valid) × (textOf (part s 0 32) ≡ name) × (infoOf s ≡ info))
 unfolding contactBytes contactOf
-accepted-exactly name info fits = (
+accepted-exactly ed name info fits = (
   λ h.
-      let g = given-valid 39 name info h in (
+      let g = given-valid ed 39 name info h in (
         contactBytes name info,
-        record-all-bytes name info h,
-        record-valid name info 0 h,
+        record-all-bytes ed name info h,
+        record-valid ed name info 0 h,
         ap textOf (name-back name (g .1) (infoBytes info)) ∙ textOf-padded name (g .1),
-        info-back name (g .1) info fits (g .2),
+        info-back name (g .1) ed info fits (g .2),
       ),
-  λ r. rw (r .3, r .4) at (read-then-write (r .0) 0 (r .1) (r .2) .0),
+  λ r. rw (r .3, r .4) at (read-then-write ed (r .0) 0 (r .1) (r .2) .0),
 )

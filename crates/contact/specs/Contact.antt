@@ -1,5 +1,5 @@
 -- Contacts (document 01, "The file"): name at 0, mode at 32 (1 DMR, 2 M17). M17: a six-byte address at 33. DMR: id at 33 (4 bytes,
--- any), settings at 37, pad at 38 (zero).
+-- any), settings at 37, pad at 38 (zero). Which addresses there are, the edition says (document 02, [10]).
 use Prim.Native.Nat.{ℕ, _+_}
 use mathlib.Core.Bool.{Bool, false, _||_, cond}
 use mathlib.Core.List.{List, [], _∷_, _++_}
@@ -12,6 +12,7 @@ use Rattle.fields.specs.declared.rule.Validity.{Validity}
 use Rattle.fields.specs.declared.rule.Validity.the-variants.{Valid, Refused}
 use Rattle.bits.specs.Packed.{numberFlagOf, numberFlagByte, numberFlagOk, numberFlagValid}
 use Rattle.bits.specs.declared.NumberFlag.{NumberFlag}
+use Rattle.m17.specs.declared.Edition.{Edition}
 use Rattle.m17.specs.Address.{addressOk, addressFor, addressNumber, addressValid}
 use Rattle.contact.specs.declared.Settings.{Settings}
 use Rattle.contact.specs.declared.ContactInfo.{ContactInfo}
@@ -42,19 +43,19 @@ dmrRuleBy settingsOk s base =
 unfoldable pub dmrRule : List ℕ → ℕ → Validity
 dmrRule s base = dmrRuleBy (numberFlagOk (getD s 37 0)) s base
 
-unfoldable pub m17Rule : List ℕ → ℕ → Validity
-m17Rule s base = field s base 33 6 8 (addressOk (big (part s 33 6)))
+unfoldable pub m17Rule : Edition → List ℕ → ℕ → Validity
+m17Rule e s base = field s base 33 6 8 (addressOk e (big (part s 33 6)))
 
 -- by what refuses a DMR contact's info
-abbrev pub contactRuleBy : Validity → List ℕ → ℕ → Validity
-contactRuleBy dmr s base =
+abbrev pub contactRuleBy : Edition → Validity → List ℕ → ℕ → Validity
+contactRuleBy e dmr s base =
     field s base 0 32 5 (textOk (part s 0 32))
     then field s base 32 1 6 (modeOk (getD s 32 0))
-    then cond (eqb (getD s 32 0) 1) dmr (m17Rule s base)
+    then cond (eqb (getD s 32 0) 1) dmr (m17Rule e s base)
 
 -- what reading a contact's bytes s refuses, a record that starts at base
-unfoldable pub contactRule : List ℕ → ℕ → Validity
-contactRule s base = contactRuleBy (dmrRule s base) s base
+unfoldable pub contactRule : Edition → List ℕ → ℕ → Validity
+contactRule e s base = contactRuleBy e (dmrRule s base) s base
 
 -- ---- a valid record's value
 
@@ -86,15 +87,15 @@ contactAnswer (Refused n p) s = record { validity = Refused n p; contact = blank
 
 -- ---- writing: 25, then the fields in order
 
-unfoldable pub infoWriteRule : ContactInfo → Validity
-infoWriteRule (M17 a) = unless (addressValid a) 8 33
-infoWriteRule (Dmr d) = unless (numberFlagValid (settingsNumberFlag (d .settings))) 7 37
+unfoldable pub infoWriteRule : Edition → ContactInfo → Validity
+infoWriteRule e (M17 a) = unless (addressValid e a) 8 33
+infoWriteRule e (Dmr d) = unless (numberFlagValid (settingsNumberFlag (d .settings))) 7 37
 
-unfoldable pub contactWriteRule : ℕ → List ℕ → ContactInfo → Validity
-contactWriteRule size name info =
+unfoldable pub contactWriteRule : Edition → ℕ → List ℕ → ContactInfo → Validity
+contactWriteRule e size name info =
     unless (leb 39 size) 25 0
     then unless (givenOk name) 5 0
-    then infoWriteRule info
+    then infoWriteRule e info
 
 -- a contact's mode by the paper's number
 abbrev pub modeNumber : ContactInfo → ℕ
@@ -110,5 +111,5 @@ unfoldable pub contactBytes : List ℕ → ContactInfo → List ℕ
 contactBytes name info = padded name ++ infoBytes info
 
 -- the later contents of a writer's buffer
-unfoldable pub contactWritten : List ℕ → List ℕ → ContactInfo → List ℕ
-contactWritten out name info = written (contactWriteRule (length out) name info) out (contactBytes name info)
+unfoldable pub contactWritten : Edition → List ℕ → List ℕ → ContactInfo → List ℕ
+contactWritten e out name info = written (contactWriteRule e (length out) name info) out (contactBytes name info)

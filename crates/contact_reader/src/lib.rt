@@ -11,6 +11,7 @@ use fields::numbers::byte_at;
 use fields::numbers::le32;
 use fields::put::bytes32;
 use fields::rule::Validity;
+use m17::Edition;
 ghost use mathlib.Core.Path.{_≡_};
 ghost use Prim.Native.Nat.{_≤_};
 ghost use lib.ListN.{length};
@@ -74,8 +75,8 @@ pub fn answer(validity: Validity, s: &[u8]) -> ContactRead
 }
 
 // A contact from its record's bytes; what stands past 39 is not looked at.
-pub fn read(s: &[u8]) -> ContactRead
-    ensures { λ r. ⌜ r ≡ contactAnswer (contactRule (now (s .entry)) 0) (now (s .entry)) ⌝ }
+pub fn read(s: &[u8], edition: Edition) -> ContactRead
+    ensures { λ r. ⌜ r ≡ contactAnswer (contactRule edition (now (s .entry)) 0) (now (s .entry)) ⌝ }
 {
-    answer(validate(s, 0), s)
+    answer(validate(s, 0, edition), s)
 }

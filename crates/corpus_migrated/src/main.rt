@@ -1,8 +1,11 @@
 // Migrates the files of a corpus on standard input, one line each, as the second program writes them (tests/second/README.md).
 mod print; // print.rt: the line of a case
 
+use fields::numbers::byte_at;
 use fields::numbers::le32;
 use libc::STDIN_FILENO;
+use m17::Edition;
+use m17::edition_of;
 ghost use Rattle.io.specs.Counts.{Counts};
 
 // Reads so many bytes into the start of a buffer, as many as it has at most, and answers how many.
@@ -14,19 +17,23 @@ fn bytes(size: u32, buffer: &mut [u8]) -> usize
     n
 }
 
-fn migrate(file: &mut [u8]) {
-    let answer = migration::migrate(file);
+fn migrate(file: &mut [u8], edition: Edition) {
+    let answer = migration::migrate(file, edition);
     print::line(answer, file);
 }
 
-// Whether there was a case: a length of four bytes, low byte first, and then a file, which may be empty.
+// Whether there was a case: a length of four bytes, low byte first, the edition's byte and then a file, which may be empty. The length counts the edition.
 fn one_case(buffer: &mut [u8]) -> bool {
-    let mut head = [0u8; 4];
-    if io::read_full(STDIN_FILENO, &mut head) < 4 {
+    let mut head = [0u8; 5];
+    if io::read_full(STDIN_FILENO, &mut head) < 5 {
         return false;
     }
-    let n = bytes(le32(&head, 0), buffer);
-    migrate(&mut buffer[..n]);
+    let size = le32(&head, 0);
+    if size == 0 {
+        return false;
+    }
+    let n = bytes(size - 1, buffer);
+    migrate(&mut buffer[..n], edition_of(byte_at(&head, 4) as u32));
     true
 }
 

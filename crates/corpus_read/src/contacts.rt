@@ -5,6 +5,7 @@ use contact::ContactInfo;
 use contact::DmrContact;
 use fields::rule::Validity;
 use m17::Address;
+use m17::Edition;
 
 fn m17(a: Address, name: &[u8]) {
     print::text(b"m17 name=", name);
@@ -30,8 +31,8 @@ fn show(c: Contact) {
     }
 }
 
-pub(crate) fn read(record: &[u8]) {
-    let read = contact_reader::read(record);
+pub(crate) fn read(record: &[u8], edition: Edition) {
+    let read = contact_reader::read(record, edition);
     let validity = read.validity;
     match validity {
         Validity::Valid => show(read.contact),

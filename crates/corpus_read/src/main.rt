@@ -6,11 +6,13 @@ mod print; // print.rt: words, numbers and bytes
 
 use fields::numbers::byte_at;
 use layout::places::record_bytes;
+use m17::Edition;
 use m17::Encoded;
+use m17::edition_of;
 use validation::Validated;
 
-fn validate(file: &[u8]) {
-    match validation::validate(file) {
+fn validate(file: &[u8], edition: Edition) {
+    match validation::validate(file, edition) {
         Validated::Accepted(c) => {
             print::number(b"ok ", c.contacts as u64);
             print::number(b" ", c.channels as u64);
@@ -20,22 +22,24 @@ fn validate(file: &[u8]) {
     }
 }
 
-fn encode(text: &[u8]) {
-    match m17_encoder::encode(text) {
+fn encode(text: &[u8], edition: Edition) {
+    match m17_encoder::encode(text, edition) {
         Encoded::Number(n) => print::number(b"number ", n),
         Encoded::Refused(n, p) => print::refused(n, p),
     }
 }
 
-// By the sort that the first byte of a case says. Behind it stands a file, or a byte that says "read" and a record or text.
+// By the sort and the edition that the first byte of a case says. Behind it stands a file, or a byte that says "read" and a record or text.
 fn answer(case: &[u8]) {
-    let sort = byte_at(case, 0);
+    let first = byte_at(case, 0);
+    let edition = edition_of((first / 4) as u32);
+    let sort = first % 4;
     if sort == 0 {
-        validate(record_bytes(case, 1, 65536));
+        validate(record_bytes(case, 1, 65536), edition);
     } else if sort == 1 {
-        contacts::read(record_bytes(case, 2, 65536));
+        contacts::read(record_bytes(case, 2, 65536), edition);
     } else {
-        encode(record_bytes(case, 2, 65536));
+        encode(record_bytes(case, 2, 65536), edition);
     }
 }
 

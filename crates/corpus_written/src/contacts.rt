@@ -9,6 +9,7 @@ use fields::numbers::le32;
 use fields::numbers::le64;
 use fields::rule::Validity;
 use m17::Address;
+use m17::Edition;
 ghost use Prim.Native.Nat.{_<_, _^_};
 
 fn dmr_at(case: &[u8], k: usize) -> DmrContact
@@ -39,9 +40,9 @@ fn info_at(case: &[u8], k: usize) -> ContactInfo
 }
 
 // Writes the contact that stands in a case from k on over a buffer.
-pub(crate) fn write(case: &[u8], k: usize, out: &mut [u8]) -> Validity
+pub(crate) fn write(case: &[u8], k: usize, out: &mut [u8], edition: Edition) -> Validity
     requires { ⌜ k < 300 ⌝ }
 {
     let info = info_at(case, past_string(case, k));
-    contact_writer::write(out, string(case, k), info)
+    contact_writer::write(out, string(case, k), info, edition)
 }

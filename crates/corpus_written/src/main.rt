@@ -14,6 +14,8 @@ use fields::numbers::le64;
 use fields::rule::Validity;
 use layout::places::record_bytes;
 use m17::Decoded;
+use m17::Edition;
+use m17::edition_of;
 ghost use Prim.Native.Nat.{_<_};
 
 fn decoded(d: Decoded) {
@@ -24,9 +26,14 @@ fn decoded(d: Decoded) {
     }
 }
 
+// The edition that the first byte of a case says beside its sort.
+fn edition_at(case: &[u8]) -> Edition {
+    edition_of((byte_at(case, 0) / 4) as u32)
+}
+
 // A number's text, over a buffer.
-fn decode(n: u64, out: &mut [u8]) {
-    decoded(m17_decoder::decode(n, out));
+fn decode(n: u64, out: &mut [u8], edition: Edition) {
+    decoded(m17_decoder::decode(n, out, edition));
     print::buffer(out);
 }
 
@@ -34,8 +41,8 @@ fn decode(n: u64, out: &mut [u8]) {
 fn record(case: &[u8], k: usize, out: &mut [u8]) -> Validity
     requires { ⌜ k < 300 ⌝ }
 {
-    if byte_at(case, 0) == 1 {
-        return contacts::write(case, k, out);
+    if byte_at(case, 0) % 4 == 1 {
+        return contacts::write(case, k, out, edition_at(case));
     }
     channels::write(case, k, out)
 }
@@ -50,12 +57,12 @@ fn write(case: &[u8], k: usize, out: &mut [u8])
 
 // A record stands behind the output buffer before the call, a number before the text buffer.
 fn answer(case: &[u8], scratch: &mut [u8]) {
-    if byte_at(case, 0) < 3 {
+    if byte_at(case, 0) % 4 < 3 {
         let n = put_first(scratch, string(case, 2));
         write(case, past_string(case, 2), &mut scratch[..n]);
     } else {
         let n = put_first(scratch, record_bytes(case, 10, 65536));
-        decode(le64(case, 2), &mut scratch[..n]);
+        decode(le64(case, 2), &mut scratch[..n], edition_at(case));
     }
 }
 

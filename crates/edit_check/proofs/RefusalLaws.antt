@@ -10,6 +10,7 @@ use Rattle.fields.specs.Rule.{_then_, unless}
 use Rattle.fields.specs.declared.rule.Validity.{Validity}
 use Rattle.fields.specs.declared.rule.Validity.the-variants.{Valid, Refused}
 use Rattle.fields.proofs.Laws.{AllBytes, then-valid, then-assoc, unless-valid}
+use Rattle.m17.specs.declared.Edition.{Edition}
 use Rattle.file_rule.specs.File.{fileRule}
 use Rattle.model.specs.Codeplug.{codeplugOf}
 use Rattle.model.specs.declared.Kind.{Kind}
@@ -56,30 +57,30 @@ module _ (k : Kind) (i j : ℕ) (r f : List ℕ) where
 
   module _ (room : ℕ) where
     -- the result, read and measured
-    abbrev late : Validity
-    late = fileRule (result k i j r f) then unless (leb (length (result k i j r f)) room) 36 0
+    abbrev late : (ed : Edition) → Validity
+    late ed = fileRule ed (result k i j r f) then unless (leb (length (result k i j r f)) room) 36 0
 
-    in-two : earlyRule k i j r f then late ≡ refusesKnown k i j r room f
+    in-two : (ed : Edition) → earlyRule k i j r f then late ed ≡ refusesKnown ed k i j r room f
     unfolding refusesKnown
-    in-two = four-then _ _ _ _ late
+    in-two ed = four-then _ _ _ _ (late ed)
 
-    pub refused-early : (v : Validity) (n p : ℕ) → v ≡ earlyRule k i j r f → v ≡ Refused n p → v ≡ refusesKnown k i j r room f
-    refused-early v n p e g = first-bad (earlyRule k i j r f) late v n p e g ∙ in-two
+    pub refused-early : (ed : Edition) (v : Validity) (n p : ℕ) → v ≡ earlyRule k i j r f → v ≡ Refused n p → v ≡ refusesKnown ed k i j r room f
+    refused-early ed v n p e g = first-bad (earlyRule k i j r f) (late ed) v n p e g ∙ in-two ed
 
-    module _ (v : Validity) (e : v ≡ earlyRule k i j r f) (g : v ≡ Valid) (bytes : AllBytes f) (record-bytes : AllBytes r)
-        (valid : fileRule f ≡ Valid) where
-      validated : fileRule (result k i j r f) ≡ resultRule k i j r f
+    module _ (ed : Edition) (v : Validity) (e : v ≡ earlyRule k i j r f) (g : v ≡ Valid) (bytes : AllBytes f) (record-bytes : AllBytes r)
+        (valid : fileRule ed f ≡ Valid) where
+      validated : fileRule ed (result k i j r f) ≡ resultRule ed k i j r f
       validated =
           let a = early-passed v e g in
-          result-validated k i j r f bytes record-bytes valid (a .wide) (a .place) (a .count) (a .free)
+          result-validated ed k i j r f bytes record-bytes valid (a .wide) (a .place) (a .count) (a .free)
 
-      pub refused-read : (w : Validity) (n p : ℕ) → w ≡ resultRule k i j r f → w ≡ Refused n p → w ≡ refusesKnown k i j r room f
+      pub refused-read : (w : Validity) (n p : ℕ) → w ≡ resultRule ed k i j r f → w ≡ Refused n p → w ≡ refusesKnown ed k i j r room f
       refused-read w n p d b =
-          first-rest (earlyRule k i j r f) late v w e g (first-bad _ _ w n p (d ∙ sym validated) b) ∙ in-two
+          first-rest (earlyRule k i j r f) (late ed) v w e g (first-bad _ _ w n p (d ∙ sym validated) b) ∙ in-two ed
 
-      pub refused-room : (w x : Validity) (n : ℕ) → w ≡ resultRule k i j r f → w ≡ Valid → n ≡ resultLength k i f
-          → x ≡ unless (leb n room) 36 0 → x ≡ refusesKnown k i j r room f
+      pub refused-room : (w x : Validity) (n : ℕ) → w ≡ resultRule ed k i j r f → w ≡ Valid → n ≡ resultLength k i f
+          → x ≡ unless (leb n room) 36 0 → x ≡ refusesKnown ed k i j r room f
       refused-room w x n d b m u =
           let a = early-passed v e g in
-          let l = result-long k i j r f bytes record-bytes valid (a .wide) (a .place) (a .count) (a .free) in
-          first-rest (earlyRule k i j r f) late v x e g (first-rest _ _ w x (d ∙ sym validated) b (u ∙ rw (m, l))) ∙ in-two
+          let l = result-long ed k i j r f bytes record-bytes valid (a .wide) (a .place) (a .count) (a .free) in
+          first-rest (earlyRule k i j r f) (late ed) v x e g (first-rest _ _ w x (d ∙ sym validated) b (u ∙ rw (m, l))) ∙ in-two ed

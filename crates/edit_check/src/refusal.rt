@@ -11,6 +11,7 @@ use format::refusals::IN_USE;
 use format::refusals::NO_EDIT;
 use format::refusals::NO_PLACE;
 use format::refusals::NO_ROOM;
+use m17::Edition;
 use model::Kind;
 use model::record_length;
 ghost use mathlib.Core.Path.{_≡_};
@@ -47,15 +48,23 @@ fn early_refusal(f: &[u8], k: Kind, i: usize, j: usize, r: &[u8]) -> Validity
 }
 
 // 32 (the record's length), 33, 34, 35, what reading the result gives, 36.
-pub fn refusal(f: &[u8], room: usize, k: Kind, i: usize, j: usize, r: &[u8]) -> Validity
-    requires { ⌜ fileRule (now f) ≡ Valid ⌝ }
-    ensures { λ v. ⌜ v ≡ refusesKnown k i j (now (r .entry)) room (now (f .entry)) ⌝ }
+pub fn refusal(
+    f: &[u8],
+    room: usize,
+    k: Kind,
+    i: usize,
+    j: usize,
+    r: &[u8],
+    edition: Edition,
+) -> Validity
+    requires { ⌜ fileRule edition (now f) ≡ Valid ⌝ }
+    ensures { λ v. ⌜ v ≡ refusesKnown edition k i j (now (r .entry)) room (now (f .entry)) ⌝ }
 {
     let early = early_refusal(f, k, i, j, r);
     if let Validity::Refused(_, _) = early {
         return early;
     }
-    let read = result_validity(f, k, i, j, r);
+    let read = result_validity(f, k, i, j, r, edition);
     if let Validity::Refused(_, _) = read {
         return read;
     }

@@ -11,6 +11,7 @@ use Rattle.fields.specs.Bytes.{little}
 use Rattle.fields.specs.declared.rule.Validity.the-variants.{Valid}
 use Rattle.fields.proofs.Laws.{AllBytes}
 use Rattle.bits.proofs.Laws.{and-right}
+use Rattle.m17.specs.declared.Edition.{Edition}
 use Rattle.layout.specs.Places.{channelCount, bankCount}
 use Rattle.layout.specs.Banks.{entryCount, bankPlace}
 use Rattle.file_rule.specs.File.{fileRule}
@@ -37,7 +38,7 @@ use Rattle.model.proofs.PlaceLaws.{entries-at, bank-behind}
 
 -- ---- an edit of an accepted codeplug, whose result is shaped
 
-module _ (c : Codeplug) (a : AcceptedCodeplug c) where
+module _ (ed : Edition) (c : Codeplug) (a : AcceptedCodeplug ed c) where
   old-bank : (i : ℕ) → i < length (c .banks) → BankShaped (getD (c .banks) i noBank)
   old-bank i g = every-getD BankShaped (c .banks) i noBank (a .shaped .banks) g
 
@@ -92,18 +93,18 @@ module _ (c : Codeplug) (a : AcceptedCodeplug c) where
       rw e
       (omega (arith, banks-changed (replaceAt i b (c .banks)) s, length-replace i b (c .banks) l, bytes-replace i b (c .banks) l))
 
-renamed-length : (c : Codeplug) (a : AcceptedCodeplug c) (i : ℕ) (r : List ℕ) → i < length (c .banks) → length r ≡ 32
+renamed-length : (ed : Edition) (c : Codeplug) (a : AcceptedCodeplug ed c) (i : ℕ) (r : List ℕ) → i < length (c .banks) → length r ≡ 32
     → length (bankBytes (renamed r (getD (c .banks) i noBank))) ≡ length (bankBytes (getD (c .banks) i noBank))
 unfolding renamed
-renamed-length c a i r g w =
-    length-bankBytes (renamed r (getD (c .banks) i noBank)) w ∙ sym (length-bankBytes (getD (c .banks) i noBank) (old-bank c a i g .wide))
+renamed-length ed c a i r g w =
+    length-bankBytes (renamed r (getD (c .banks) i noBank)) w ∙ sym (length-bankBytes (getD (c .banks) i noBank) (old-bank ed c a i g .wide))
 
-fuller-length : (c : Codeplug) (a : AcceptedCodeplug c) (i j x : ℕ) → i < length (c .banks) → j ≤ entriesIn i (c .banks)
+fuller-length : (ed : Edition) (c : Codeplug) (a : AcceptedCodeplug ed c) (i j x : ℕ) → i < length (c .banks) → j ≤ entriesIn i (c .banks)
     → length (bankBytes (withEntries (insertAt j x) (getD (c .banks) i noBank))) ≡ length (bankBytes (getD (c .banks) i noBank)) + 2
 unfolding withEntries
-fuller-length c a i j x g k =
+fuller-length ed c a i j x g k =
     let b = getD (c .banks) i noBank in
-    let s = old-bank c a i g in
+    let s = old-bank ed c a i g in
     omega (
       arith,
       length-bankBytes (withEntries (insertAt j x) b) (s .wide),
@@ -111,12 +112,12 @@ fuller-length c a i j x g k =
       length-insert j x (b .entries) (omega (arith, entries-in i (c .banks))),
     )
 
-emptier-length : (c : Codeplug) (a : AcceptedCodeplug c) (i j : ℕ) → i < length (c .banks) → j < entriesIn i (c .banks)
+emptier-length : (ed : Edition) (c : Codeplug) (a : AcceptedCodeplug ed c) (i j : ℕ) → i < length (c .banks) → j < entriesIn i (c .banks)
     → length (bankBytes (withEntries (removeAt j) (getD (c .banks) i noBank))) + 2 ≡ length (bankBytes (getD (c .banks) i noBank))
 unfolding withEntries
-emptier-length c a i j g k =
+emptier-length ed c a i j g k =
     let b = getD (c .banks) i noBank in
-    let s = old-bank c a i g in
+    let s = old-bank ed c a i g in
     omega (
       arith,
       length-bankBytes (withEntries (removeAt j) b) (s .wide),
@@ -124,93 +125,93 @@ emptier-length c a i j g k =
       length-remove j (b .entries) (omega (arith, entries-in i (c .banks))),
     )
 
-pub edit-length : (k : Kind) (i j : ℕ) (r : List ℕ) (c : Codeplug) → AcceptedCodeplug c → Shaped (edited k i j r c) → length r ≡ recordLength k
+pub edit-length : (ed : Edition) (k : Kind) (i j : ℕ) (r : List ℕ) (c : Codeplug) → AcceptedCodeplug ed c → Shaped (edited k i j r c) → length r ≡ recordLength k
     → placeOk k i j c ≡ true → length (codeplugBytes (edited k i j r c)) ≡ resultLength k i (codeplugBytes c)
 unfolding edited moveContacts moveChannels
-edit-length InsertContact i j r c a h w p =
+edit-length ed InsertContact i j r c a h w p =
     let l = c .contacts in
     omega (
       arith,
-      contacts-changed c a (insertAt i r l) (map (moveContact (raised i)) (c .channels)) (length-map (c .channels) (moveContact (raised i))) h,
+      contacts-changed ed c a (insertAt i r l) (map (moveContact (raised i)) (c .channels)) (length-map (c .channels) (moveContact (raised i))) h,
       length-insert i r l (up-to i (length l) _ p),
     )
-edit-length RemoveContact i j r c a h w p =
+edit-length ed RemoveContact i j r c a h w p =
     let l = c .contacts in
     omega (
       arith,
-      contacts-changed c a (removeAt i l) (map (moveContact (lowered i)) (c .channels)) (length-map (c .channels) (moveContact (lowered i))) h,
+      contacts-changed ed c a (removeAt i l) (map (moveContact (lowered i)) (c .channels)) (length-map (c .channels) (moveContact (lowered i))) h,
       length-remove i l (below i (length l) _ p),
     )
-edit-length ReplaceContact i j r c a h w p =
+edit-length ed ReplaceContact i j r c a h w p =
     let l = c .contacts in
-    omega (arith, contacts-only c a (replaceAt i r l) h, length-replace i r l (below i (length l) _ p))
-edit-length InsertChannel i j r c a h w p =
+    omega (arith, contacts-only ed c a (replaceAt i r l) h, length-replace i r l (below i (length l) _ p))
+edit-length ed InsertChannel i j r c a h w p =
     let l = c .channels in
     let m = map (moveEntries (raised i)) (c .banks) in
     omega (
       arith,
-      channels-changed c a (insertAt i r l) m (length-map (c .banks) (moveEntries (raised i)))
+      channels-changed ed c a (insertAt i r l) m (length-map (c .banks) (moveEntries (raised i)))
           (moved-length (raised i) (c .banks) (a .shaped .banks)) h,
       length-insert i r l (up-to i (length l) _ p),
     )
-edit-length RemoveChannel i j r c a h w p =
+edit-length ed RemoveChannel i j r c a h w p =
     let l = c .channels in
     let m = map (moveEntries (lowered i)) (c .banks) in
     omega (
       arith,
-      channels-changed c a (removeAt i l) m (length-map (c .banks) (moveEntries (lowered i)))
+      channels-changed ed c a (removeAt i l) m (length-map (c .banks) (moveEntries (lowered i)))
           (moved-length (lowered i) (c .banks) (a .shaped .banks)) h,
       length-remove i l (below i (length l) _ p),
     )
-edit-length ReplaceChannel i j r c a h w p =
+edit-length ed ReplaceChannel i j r c a h w p =
     let l = c .channels in
-    omega (arith, channels-only c a (replaceAt i r l) h, length-replace i r l (below i (length l) _ p))
-edit-length InsertBank i j r c a h w p =
+    omega (arith, channels-only ed c a (replaceAt i r l) h, length-replace i r l (below i (length l) _ p))
+edit-length ed InsertBank i j r c a h w p =
     let l = c .banks in
     let b : Bank = record { name = r; entries = [] } in
     omega (
       arith,
-      banks-changed c a (insertAt i b l) h,
+      banks-changed ed c a (insertAt i b l) h,
       length-insert i b l (up-to i (length l) _ p),
       bytes-insert i b l,
       length-bankBytes b w,
     )
-edit-length RemoveBank i j r c a h w p =
+edit-length ed RemoveBank i j r c a h w p =
     let l = c .banks in
     let g = below i (length l) _ p in
     omega (
       arith,
-      banks-changed c a (removeAt i l) h,
+      banks-changed ed c a (removeAt i l) h,
       length-remove i l g,
       bytes-remove i l g,
-      old-length c a i g,
-      ap (λ (n : ℕ). n * 2) (entries-of c a i g),
+      old-length ed c a i g,
+      ap (λ (n : ℕ). n * 2) (entries-of ed c a i g),
     )
-edit-length RenameBank i j r c a h w p =
+edit-length ed RenameBank i j r c a h w p =
     let g = below i (length (c .banks)) _ p in
-    omega (arith, bank-changed c a i (renamed r) g h, renamed-length c a i r g w)
-edit-length InsertEntry i j r c a h w p =
+    omega (arith, bank-changed ed c a i (renamed r) g h, renamed-length ed c a i r g w)
+edit-length ed InsertEntry i j r c a h w p =
     let n = entriesIn i (c .banks) in
     let g = below i (length (c .banks)) (leb j n) p in
     let k : j ≤ n = leb-true j n (and-right (ltb i (length (c .banks))) _ p) in
-    omega (arith, bank-changed c a i (withEntries (insertAt j (little r))) g h, fuller-length c a i j (little r) g k)
-edit-length RemoveEntry i j r c a h w p =
+    omega (arith, bank-changed ed c a i (withEntries (insertAt j (little r))) g h, fuller-length ed c a i j (little r) g k)
+edit-length ed RemoveEntry i j r c a h w p =
     let n = entriesIn i (c .banks) in
     let g = below i (length (c .banks)) (ltb j n) p in
     let k : j < n = ltb-true j n (and-right (ltb i (length (c .banks))) _ p) in
-    omega (arith, bank-changed c a i (withEntries (removeAt j)) g h, emptier-length c a i j g k)
-edit-length SetHeader i j r c a h w p = header-changed c a _ h
+    omega (arith, bank-changed ed c a i (withEntries (removeAt j)) g h, emptier-length ed c a i j g k)
+edit-length ed SetHeader i j r c a h w p = header-changed ed c a _ h
 
 -- ---- an edit of an accepted file
 
-pub result-long : (k : Kind) (i j : ℕ) (r f : List ℕ) → AllBytes f → AllBytes r → fileRule f ≡ Valid → length r ≡ recordLength k
+pub result-long : (ed : Edition) (k : Kind) (i j : ℕ) (r f : List ℕ) → AllBytes f → AllBytes r → fileRule ed f ≡ Valid → length r ≡ recordLength k
     → placeOk k i j (codeplugOf f) ≡ true → countOk k i (codeplugOf f) ≡ true → inUse k i (codeplugOf f) ≡ false
     → length (result k i j r f) ≡ resultLength k i f
 unfolding result
-result-long k i j r f bytes record-bytes valid wide place count free =
-    let a = codeplug-accepted f valid bytes in
-    edit-length k i j r (codeplugOf f) a (edited-shaped k i j r (codeplugOf f) a record-bytes wide place count free) wide place
-    ∙ ap (λ (x : List ℕ). resultLength k i x) (file-of-codeplug f (has-layout f valid bytes))
+result-long ed k i j r f bytes record-bytes valid wide place count free =
+    let a = codeplug-accepted ed f valid bytes in
+    edit-length ed k i j r (codeplugOf f) a (edited-shaped ed k i j r (codeplugOf f) a record-bytes wide place count free) wide place
+    ∙ ap (λ (x : List ℕ). resultLength k i x) (file-of-codeplug f (has-layout ed f valid bytes))
 
 -- ---- what is taken away is there
 

@@ -24,6 +24,7 @@ use layout::places::channel_place;
 use layout::places::contact_place;
 use layout::places::entry_count;
 use layout::places::record_bytes;
+use m17::Edition;
 use model::Kind;
 use model::is_index;
 use model::places::bank_place;
@@ -101,12 +102,12 @@ fn all_keep_mode(f: &[u8], i: usize, mode: u8) -> Validity
     Validity::Valid
 }
 
-fn replace_contact(f: &[u8], i: usize, r: &[u8]) -> Validity
+fn replace_contact(f: &[u8], i: usize, r: &[u8], edition: Edition) -> Validity
     requires { ⌜ i < 65536 ⌝ }
-    ensures { λ v. ⌜ v ≡ contactRule (now (r .entry)) (contactPlace i)
+    ensures { λ v. ⌜ v ≡ contactRule edition (now (r .entry)) (contactPlace i)
         then each (keepsMode (now (f .entry)) i (getD (now (r .entry)) 32 0)) (channelCount (now (f .entry))) 90 (channelPlace (now (f .entry)) 0) ⌝ }
 {
-    let v = contact_validation::validate(r, contact_place(i));
+    let v = contact_validation::validate(r, contact_place(i), edition);
     if let Validity::Refused(_, _) = v {
         return v;
     }
@@ -150,13 +151,13 @@ fn set_header(r: &[u8]) -> Validity
 }
 
 // What validation says of an edit's record, where the file may grow.
-fn record_validity(f: &[u8], k: Kind, i: usize, j: usize, r: &[u8]) -> Validity
+fn record_validity(f: &[u8], k: Kind, i: usize, j: usize, r: &[u8], edition: Edition) -> Validity
     requires { ⌜ (HasLayout (now f)) × ((length (now r) ≡ recordLength k) × (placeOk k i j (codeplugOf (now f)) ≡ true)) ⌝ }
-    ensures { λ v. ⌜ (growthRule k (now (f .entry)) then v) ≡ resultRule k i j (now (r .entry)) (now (f .entry)) ⌝ }
+    ensures { λ v. ⌜ (growthRule k (now (f .entry)) then v) ≡ resultRule edition k i j (now (r .entry)) (now (f .entry)) ⌝ }
 {
     match k {
-        Kind::InsertContact => contact_validation::validate(r, contact_place(i)),
-        Kind::ReplaceContact => replace_contact(f, i, r),
+        Kind::InsertContact => contact_validation::validate(r, contact_place(i), edition),
+        Kind::ReplaceContact => replace_contact(f, i, r, edition),
         Kind::InsertChannel => put_channel(f, i, r),
         Kind::ReplaceChannel => put_channel(f, i, r),
         Kind::InsertBank => name_bank(f, i, OFFSET_SIZE, r),
@@ -169,11 +170,18 @@ fn record_validity(f: &[u8], k: Kind, i: usize, j: usize, r: &[u8]) -> Validity
 }
 
 // What reading the result of an edit gives, told without building it.
-pub fn result_validity(f: &[u8], k: Kind, i: usize, j: usize, r: &[u8]) -> Validity
+pub fn result_validity(
+    f: &[u8],
+    k: Kind,
+    i: usize,
+    j: usize,
+    r: &[u8],
+    edition: Edition,
+) -> Validity
     requires { ⌜ (HasLayout (now f)) × ((length (now r) ≡ recordLength k) × (placeOk k i j (codeplugOf (now f)) ≡ true)) ⌝ }
-    ensures { λ v. ⌜ v ≡ resultRule k i j (now (r .entry)) (now (f .entry)) ⌝ }
+    ensures { λ v. ⌜ v ≡ resultRule edition k i j (now (r .entry)) (now (f .entry)) ⌝ }
 {
-    first(may_grow(f, k), record_validity(f, k, i, j, r))
+    first(may_grow(f, k), record_validity(f, k, i, j, r, edition))
 }
 
 // The length of the result, of an edit whose places are there.

@@ -8,6 +8,7 @@ use journal::answer::Answer;
 use journal::recording::Span;
 use journal::recording::entry_size;
 use journal::recording::record_entry;
+use m17::Edition;
 use model::Kind;
 use model::KindRead;
 use model::kind_of;
@@ -56,12 +57,13 @@ fn edit_known(
     i: usize,
     j: usize,
     bytes: &[u8],
+    edition: Edition,
 ) -> Answer
-    requires { ⌜ buffersRule editing (stateOf (now room) len (now history) used) ≡ Valid ⌝ }
-    ensures { λ r. ⌜ outcomeOf r (now (room .exit)) (now (history .exit)) ≡ knownStep k i j (now (bytes .entry)) (stateOf (now (room .entry)) len (now (history .entry)) used) ⌝ }
+    requires { ⌜ buffersRule (editing edition) (stateOf (now room) len (now history) used) ≡ Valid ⌝ }
+    ensures { λ r. ⌜ outcomeOf r (now (room .exit)) (now (history .exit)) ≡ knownStep edition k i j (now (bytes .entry)) (stateOf (now (room .entry)) len (now (history .entry)) used) ⌝ }
 {
     let size = room.len();
-    if let Validity::Refused(n, p) = refusal(&room[..len], size, k, i, j, bytes) {
+    if let Validity::Refused(n, p) = refusal(&room[..len], size, k, i, j, bytes, edition) {
         return Answer::Refused(n, p);
     }
     let plan = plan_of(&room[..len], k, i, j);
@@ -82,15 +84,26 @@ pub fn edit(
     first: usize,
     second: usize,
     bytes: &[u8],
+    edition: Edition,
 ) -> Answer
-    ensures { λ r. ⌜ outcomeOf r (now (room .exit)) (now (history .exit)) ≡ editStep editing
+    ensures { λ r. ⌜ outcomeOf r (now (room .exit)) (now (history .exit)) ≡ editStep (editing edition)
         (editRequest kind first second (now (bytes .entry))) (stateOf (now (room .entry)) len (now (history .entry)) used) ⌝ }
 {
-    if let Validity::Refused(n, p) = check(room, len, history, used) {
+    if let Validity::Refused(n, p) = check(room, len, history, used, edition) {
         return Answer::Refused(n, p);
     }
     match kind_of(kind) {
         KindRead::NoKind => Answer::Refused(NO_EDIT, 0),
-        KindRead::Known(k) => edit_known(room, len, history, used, k, first, second, bytes),
+        KindRead::Known(k) => edit_known(
+            room,
+            len,
+            history,
+            used,
+            k,
+            first,
+            second,
+            bytes,
+            edition,
+        ),
     }
 }

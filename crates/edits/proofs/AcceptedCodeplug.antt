@@ -15,6 +15,7 @@ use Rattle.fields.specs.Rule.{_then_, unless}
 use Rattle.fields.specs.declared.rule.Validity.{Validity}
 use Rattle.fields.specs.declared.rule.Validity.the-variants.{Valid}
 use Rattle.fields.proofs.Laws.{getD-part, part-inside, then-valid, both-valid, unless-valid, AllBytes}
+use Rattle.m17.specs.declared.Edition.{Edition}
 use Rattle.contact.specs.Contact.{contactRule}
 use Rattle.contact.proofs.Laws.{ValidInfo, contact-valid, dmr-passes, m17-passes}
 use Rattle.channel.specs.Rule.{channelRule, namedContact}
@@ -61,9 +62,9 @@ module _ (c : Codeplug) (h : Shaped c) where
   unfolding indexOk
   index-ok s = names-are (getD s 0 0) (namedContact s)
 
-  contacts-are : contactsRule (codeplugBytes c) ≡ eachOf contactRule 39 88 (c .contacts)
+  contacts-are : (ed : Edition) → contactsRule ed (codeplugBytes c) ≡ eachOf (contactRule ed) 39 88 (c .contacts)
   unfolding contactsRule
-  contacts-are = contacts-validated c h contactRule
+  contacts-are ed = contacts-validated c h (contactRule ed)
 
   channels-are : channelsRule (codeplugBytes c) ≡ eachOf (channelIn (c .contacts)) 90 (channelsStart c) (c .channels)
   unfolding channelsRule channelIn
@@ -73,30 +74,30 @@ module _ (c : Codeplug) (h : Shaped c) where
       (λ i g. rw (index-ok (getD (c .channels) i [])))
 
   -- reading the file of a shaped codeplug
-  pub file-validated : fileRule (codeplugBytes c)
+  pub file-validated : (ed : Edition) → fileRule ed (codeplugBytes c)
       ≡ unless (leb (length (codeplugBytes c)) 1_048_576) 1 0
       then identityRule (c .preamble)
-      then eachOf contactRule 39 88 (c .contacts)
+      then eachOf (contactRule ed) 39 88 (c .contacts)
       then eachOf (channelIn (c .contacts)) 90 (channelsStart c) (c .channels)
       then banksOk (length (c .channels)) (banksStart c) (c .banks)
   unfolding fileRule _then_
-  file-validated = rw (header-validated c h, contacts-are, channels-are, offsets-valid c h, banks-validated c h)
+  file-validated ed = rw (header-validated c h, contacts-are ed, channels-are, offsets-valid c h, banks-validated c h)
 
 -- ---- a record that is valid, wherever it stands
 
-pub record ContactValid (s : List ℕ) : Type 0 where
+pub record ContactValid (ed : Edition) (s : List ℕ) : Type 0 where
   pub text : textOk (part s 0 32) ≡ true
-  pub info : ValidInfo s
+  pub info : ValidInfo ed s
 
-pub contact-is-valid : (s : List ℕ) (p : ℕ) → contactRule s p ≡ Valid → ContactValid s
-contact-is-valid s p h = let a = contact-valid s p h in record { text = a .0; info = a .1 }
+pub contact-is-valid : (ed : Edition) (s : List ℕ) (p : ℕ) → contactRule ed s p ≡ Valid → ContactValid ed s
+contact-is-valid ed s p h = let a = contact-valid ed s p h in record { text = a .0; info = a .1 }
 
-pub contact-passes : (s : List ℕ) (p : ℕ) → ContactValid s → contactRule s p ≡ Valid
-contact-passes s p g = by (g .info)
+pub contact-passes : (ed : Edition) (s : List ℕ) (p : ℕ) → ContactValid ed s → contactRule ed s p ≡ Valid
+contact-passes ed s p g = by (g .info)
   where
-    by : ValidInfo s → contactRule s p ≡ Valid
-    by (inl d) = dmr-passes s p (g .text) d
-    by (inr m) = m17-passes s p (g .text) m
+    by : ValidInfo ed s → contactRule ed s p ≡ Valid
+    by (inl d) = dmr-passes s p (g .text) ed d
+    by (inr m) = m17-passes s p (g .text) ed m
 
 -- its contact index names a contact of its own mode in the list
 pub record ChannelValid (l : List (List ℕ)) (s : List ℕ) : Type 0 where
@@ -142,25 +143,25 @@ module _ (rule : List ℕ → ℕ → Validity) (P : List ℕ → Type 0) where
   run-of-every f w p (s ∷ l) h =
       both-valid (rule s p) (eachOf rule w (p + w) l) (f s p (h .0)) (run-of-every f w (p + w) l (h .1))
 
-pub contacts-pass : (p : ℕ) (l : List (List ℕ)) → Every ContactValid l → eachOf contactRule 39 p l ≡ Valid
-contacts-pass p l h = run-of-every contactRule ContactValid contact-passes 39 p l h
+pub contacts-pass : (ed : Edition) (p : ℕ) (l : List (List ℕ)) → Every (ContactValid ed) l → eachOf (contactRule ed) 39 p l ≡ Valid
+contacts-pass ed p l h = run-of-every (contactRule ed) (ContactValid ed) (contact-passes ed) 39 p l h
 
 pub channels-pass : (t : List (List ℕ)) (p : ℕ) (l : List (List ℕ)) → Every (ChannelValid t) l → eachOf (channelIn t) 90 p l ≡ Valid
 channels-pass t p l h = run-of-every (channelIn t) (ChannelValid t) (channel-passes t) 90 p l h
 
 -- ---- a codeplug whose file is accepted
 
-pub record AcceptedCodeplug (c : Codeplug) : Type 0 where
+pub record AcceptedCodeplug (ed : Edition) (c : Codeplug) : Type 0 where
   pub shaped : Shaped c
   pub short : length (codeplugBytes c) ≤ 1_048_576
   pub preamble : identityRule (c .preamble) ≡ Valid
-  pub contacts : Every ContactValid (c .contacts)
+  pub contacts : Every (ContactValid ed) (c .contacts)
   pub channels : Every (ChannelValid (c .contacts)) (c .channels)
   pub banks : Every (BankValid (length (c .channels))) (c .banks)
 
-pub accepted-by : (c : Codeplug) → Shaped c → fileRule (codeplugBytes c) ≡ Valid → AcceptedCodeplug c
-accepted-by c h g =
-    let a = then-valid _ _ (sym (file-validated c h) ∙ g) in
+pub accepted-by : (ed : Edition) (c : Codeplug) → Shaped c → fileRule ed (codeplugBytes c) ≡ Valid → AcceptedCodeplug ed c
+accepted-by ed c h g =
+    let a = then-valid _ _ (sym (file-validated c h ed) ∙ g) in
     let b = then-valid _ _ (a .1) in
     let d = then-valid _ _ (b .1) in
     let e = then-valid _ _ (d .1) in
@@ -168,7 +169,7 @@ accepted-by c h g =
       shaped = h;
       short = leb-true (length (codeplugBytes c)) 1_048_576 (unless-valid (leb (length (codeplugBytes c)) 1_048_576) 1 0 (a .0));
       preamble = b .0;
-      contacts = every-of-run contactRule ContactValid contact-is-valid 39 88 (c .contacts) (d .0);
+      contacts = every-of-run (contactRule ed) (ContactValid ed) (contact-is-valid ed) 39 88 (c .contacts) (d .0);
       channels =
           every-of-run (channelIn (c .contacts)) (ChannelValid (c .contacts)) (channel-is-valid (c .contacts)) 90 (channelsStart c)
           (c .channels) (e .0);
@@ -185,14 +186,14 @@ channel-walk : (f : List ℕ) (n : ℕ) → channelPlace f n ≡ channelPlace f 
 unfolding channelPlace
 channel-walk f n = omega arith
 
-module _ (f : List ℕ) (h : fileRule f ≡ Valid) where
+module _ (ed : Edition) (f : List ℕ) (h : fileRule ed f ≡ Valid) where
   contacts-inside : channelPlace f 0 ≤ length f
   contacts-inside = by (contactCount f) refl
     where
       by : (n : ℕ) → contactCount f ≡ n → channelPlace f 0 ≤ length f
-      by zero e = omega (arith, channels-start f, file-header f h)
+      by zero e = omega (arith, channels-start f, file-header ed f h)
       by (suc n) e =
-          let w = contact-whole f (contactPlace n) (contact-there f n (file-valid f h .contacts) (omega arith)) in
+          let w = contact-whole ed f (contactPlace n) (contact-there ed f n (file-valid ed f h .contacts) (omega arith)) in
           let i = part-inside f (contactPlace n) 39 (omega arith) w in
           omega (arith, channels-start f, contact-walk n)
 
@@ -202,20 +203,20 @@ module _ (f : List ℕ) (h : fileRule f ≡ Valid) where
       by : (n : ℕ) → channelCount f ≡ n → offsetPlace f 0 ≤ length f
       by zero e = omega (arith, offsets-start f, contacts-inside)
       by (suc n) e =
-          let w = channel-whole f (channelPlace f n) (channel-there f n (file-valid f h .channels) (omega arith)) in
+          let w = channel-whole f (channelPlace f n) (channel-there f n (file-valid ed f h .channels) (omega arith)) in
           let i = part-inside f (channelPlace f n) 90 (omega arith) w in
           omega (arith, offsets-start f, channel-walk f n)
 
   pub has-layout : AllBytes f → HasLayout f
   has-layout b =
-      let g = file-valid f h in
+      let g = file-valid ed f h in
       record {
         bytes = b;
-        header = file-header f h;
+        header = file-header ed f h;
         table = table-inside f channels-inside (g .offsets);
         banks = g .banks;
         short = omega (arith, g .short);
       }
 
-  pub codeplug-accepted : AllBytes f → AcceptedCodeplug (codeplugOf f)
-  codeplug-accepted b = accepted-by (codeplugOf f) (shaped-of f (has-layout b)) (rw (file-of-codeplug f (has-layout b)) h)
+  pub codeplug-accepted : AllBytes f → AcceptedCodeplug ed (codeplugOf f)
+  codeplug-accepted b = accepted-by ed (codeplugOf f) (shaped-of f (has-layout b)) (rw (file-of-codeplug f (has-layout b)) h)

@@ -11,6 +11,7 @@ use borrow.Author.Tests.{le-leb}
 use Rattle.fields.specs.Rule.{_then_, unless}
 use Rattle.fields.specs.declared.rule.Validity.the-variants.{Valid}
 use Rattle.fields.proofs.Laws.{then-of-valid, unless-passes}
+use Rattle.m17.specs.declared.Edition.{Edition}
 use Rattle.layout.specs.Banks.{bankPlace}
 use Rattle.file_rule.specs.File.{fileRule}
 use Rattle.model.specs.Codeplug.{Bank, Codeplug, bankBytes, codeplugBytes}
@@ -90,7 +91,7 @@ replace-ok n p i b l h =
 
 -- ---- other banks
 
-module _ (c : Codeplug) (a : AcceptedCodeplug c) where
+module _ (ed : Edition) (c : Codeplug) (a : AcceptedCodeplug ed c) where
   banks-short : length (banksBytes (c .banks)) ≤ 1_048_576
   banks-short = omega (arith, a .short, length-codeplug c (a .shaped))
 
@@ -119,17 +120,17 @@ module _ (c : Codeplug) (a : AcceptedCodeplug c) where
       banks-length = length-codeplug (withBanks l c) h
 
       -- after the length only the banks can refuse
-      banks-result : fileRule (codeplugBytes (withBanks l c))
+      banks-result : fileRule ed (codeplugBytes (withBanks l c))
           ≡ unless (leb (length (codeplugBytes (withBanks l c))) 1_048_576) 1 0
           then banksOk (length (c .channels)) (tableStart c + length l * 4) l
       unfolding withBanks _then_
       banks-result =
-          file-validated (withBanks l c) h
-          ∙ rw (a .preamble, contacts-pass 88 (c .contacts) (a .contacts), channels-pass (c .contacts) _ (c .channels) (a .channels))
+          file-validated (withBanks l c) h ed
+          ∙ rw (a .preamble, contacts-pass ed 88 (c .contacts) (a .contacts), channels-pass (c .contacts) _ (c .channels) (a .channels))
 
       -- no longer than before
       banks-result-short : length (codeplugBytes (withBanks l c)) ≤ length (codeplugBytes c)
-          → fileRule (codeplugBytes (withBanks l c)) ≡ banksOk (length (c .channels)) (tableStart c + length l * 4) l
+          → fileRule ed (codeplugBytes (withBanks l c)) ≡ banksOk (length (c .channels)) (tableStart c + length l * 4) l
       unfolding _then_
       banks-result-short s =
           banks-result
@@ -146,7 +147,7 @@ module _ (c : Codeplug) (a : AcceptedCodeplug c) where
         shaped-banks (removeAt i l) (omega (arith, length-remove i l g, h .banksFit)) (every-remove BankShaped i l (h .banks))
         (omega (arith, bytes-remove i l g, h .offsetsFit))
 
-    pub remove-bank-validated : fileRule (codeplugBytes (withBanks (removeAt i (c .banks)) c)) ≡ Valid
+    pub remove-bank-validated : fileRule ed (codeplugBytes (withBanks (removeAt i (c .banks)) c)) ≡ Valid
     remove-bank-validated =
         let l = c .banks in
         let n = length (c .channels) in
@@ -190,13 +191,13 @@ module _ (c : Codeplug) (a : AcceptedCodeplug c) where
         in
         replace-ok n (tableStart c + length (replaceAt i b l) * 4) i b l (a .banks) ∙ ap (λ (p : ℕ). bankOk n p b) e
 
-    pub replace-bank-validated : fileRule (codeplugBytes (withBanks (replaceAt i b (c .banks)) c))
+    pub replace-bank-validated : fileRule ed (codeplugBytes (withBanks (replaceAt i b (c .banks)) c))
         ≡ unless (leb (length (codeplugBytes (withBanks (replaceAt i b (c .banks)) c))) 1_048_576) 1 0
         then bankOk (length (c .channels)) (bankPlace (codeplugBytes c) i) b
     replace-bank-validated = banks-result (replaceAt i b (c .banks)) shaped-replace-bank ∙ rw replaced-validated
 
     pub replace-bank-short : length (bankBytes b) ≤ length (bankBytes (getD (c .banks) i noBank))
-        → fileRule (codeplugBytes (withBanks (replaceAt i b (c .banks)) c)) ≡ bankOk (length (c .channels)) (bankPlace (codeplugBytes c) i) b
+        → fileRule ed (codeplugBytes (withBanks (replaceAt i b (c .banks)) c)) ≡ bankOk (length (c .channels)) (bankPlace (codeplugBytes c) i) b
     replace-bank-short z =
         banks-result-short (replaceAt i b (c .banks)) shaped-replace-bank (omega (arith, length-replace-bank)) ∙ replaced-validated
 
@@ -221,7 +222,7 @@ module _ (c : Codeplug) (a : AcceptedCodeplug c) where
           bytes-insert i b l,
         )
 
-    pub insert-bank-validated : fileRule (codeplugBytes (withBanks (insertAt i b (c .banks)) c))
+    pub insert-bank-validated : fileRule ed (codeplugBytes (withBanks (insertAt i b (c .banks)) c))
         ≡ unless (leb (length (codeplugBytes c) + (4 + length (bankBytes b))) 1_048_576) 1 0
         then bankOk (length (c .channels)) (bankPlace (codeplugBytes c) i + 4) b
     insert-bank-validated =

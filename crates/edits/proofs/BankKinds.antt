@@ -11,6 +11,7 @@ use Rattle.text.specs.Text.{textOk}
 use Rattle.fields.specs.Rule.{_then_, unless}
 use Rattle.fields.specs.declared.rule.Validity.the-variants.{Valid}
 use Rattle.fields.proofs.Laws.{then-of-valid, unless-passes, AllBytes, little-lt}
+use Rattle.m17.specs.declared.Edition.{Edition}
 use Rattle.layout.specs.Banks.{bankPlace}
 use Rattle.file_rule.specs.File.{fileRule}
 use Rattle.model.specs.Codeplug.{Bank, Codeplug, bankBytes, codeplugBytes}
@@ -45,7 +46,7 @@ one-entry n p j v l h g =
     )
     (then-of-valid (unless (ltb v n) 11 (p + j * 2)))
 
-module _ (c : Codeplug) (a : AcceptedCodeplug c) where
+module _ (ed : Edition) (c : Codeplug) (a : AcceptedCodeplug ed c) where
   -- ---- 7
 
   module _ (i : ℕ) (r : List ℕ) (g : i ≤ length (c .banks)) (m : length (c .banks) < 65535) (w : length r ≡ 32) (b : AllBytes r) where
@@ -53,16 +54,16 @@ module _ (c : Codeplug) (a : AcceptedCodeplug c) where
     empty-shaped = record { wide = w; bytes = b; fits = omega arith; small = tt }
 
     pub shaped-insert : Shaped (withBanks (insertAt i (record { name = r; entries = [] }) (c .banks)) c)
-    shaped-insert = shaped-insert-bank c a i (record { name = r; entries = [] }) g m empty-shaped
+    shaped-insert = shaped-insert-bank ed c a i (record { name = r; entries = [] }) g m empty-shaped
 
-    pub insert-bank-is : fileRule (codeplugBytes (withBanks (insertAt i (record { name = r; entries = [] }) (c .banks)) c))
+    pub insert-bank-is : fileRule ed (codeplugBytes (withBanks (insertAt i (record { name = r; entries = [] }) (c .banks)) c))
         ≡ mayGrow 38 (codeplugBytes c) then unless (textOk r) 5 (bankPlace (codeplugBytes c) i + 4)
     unfolding mayGrow bankOk entriesOf
     insert-bank-is =
         let e : 4 + length (bankBytes (record { name = r; entries = [] })) ≡ 38 =
         omega (arith, length-bankBytes (record { name = r; entries = [] }) w)
         in
-        insert-bank-validated c a i (record { name = r; entries = [] }) g m empty-shaped
+        insert-bank-validated ed c a i (record { name = r; entries = [] }) g m empty-shaped
         ∙ rw (e, then-of-valid (unless (textOk r) 5 (bankPlace (codeplugBytes c) i + 4)))
 
   module _ (i : ℕ) (g : i < length (c .banks)) where
@@ -92,13 +93,13 @@ module _ (c : Codeplug) (a : AcceptedCodeplug c) where
       named-ok n p h = rw (entriesOf-passes n (p + 34) (old .entries) (h .below)) (then-of-valid (unless (textOk r) 5 p))
 
       pub shaped-rename : Shaped (withBanks (changeAt i (renamed r) (c .banks)) c)
-      shaped-rename = rw (change-is i (renamed r) (c .banks) noBank g) (shaped-replace-bank c a i (renamed r old) g named-shaped)
+      shaped-rename = rw (change-is i (renamed r) (c .banks) noBank g) (shaped-replace-bank ed c a i (renamed r old) g named-shaped)
 
-      pub rename-bank-is : fileRule (codeplugBytes (withBanks (changeAt i (renamed r) (c .banks)) c))
+      pub rename-bank-is : fileRule ed (codeplugBytes (withBanks (changeAt i (renamed r) (c .banks)) c))
           ≡ unless (textOk r) 5 (bankPlace (codeplugBytes c) i)
       rename-bank-is =
           rw (change-is i (renamed r) (c .banks) noBank g)
-          (replace-bank-short c a i (renamed r old) g named-shaped (omega (arith, named-length))
+          (replace-bank-short ed c a i (renamed r old) g named-shaped (omega (arith, named-length))
           ∙ named-ok (length (c .channels)) (bankPlace (codeplugBytes c) i) old-valid)
 
     -- ---- 10
@@ -141,17 +142,17 @@ module _ (c : Codeplug) (a : AcceptedCodeplug c) where
 
         pub shaped-insert-entry : Shaped (withBanks (changeAt i (withEntries (insertAt j (little r))) (c .banks)) c)
         shaped-insert-entry =
-            rw (change-is i (withEntries (insertAt j (little r))) (c .banks) noBank g) (shaped-replace-bank c a i fuller g fuller-shaped)
+            rw (change-is i (withEntries (insertAt j (little r))) (c .banks) noBank g) (shaped-replace-bank ed c a i fuller g fuller-shaped)
 
-        pub insert-entry-is : fileRule (codeplugBytes (withBanks (changeAt i (withEntries (insertAt j (little r))) (c .banks)) c))
+        pub insert-entry-is : fileRule ed (codeplugBytes (withBanks (changeAt i (withEntries (insertAt j (little r))) (c .banks)) c))
             ≡ mayGrow 2 (codeplugBytes c) then unless (ltb (little r) (length (c .channels))) 11 (bankPlace (codeplugBytes c) i + 34 + j * 2)
         unfolding mayGrow
         insert-entry-is =
             let e : length (codeplugBytes (withBanks (replaceAt i fuller (c .banks)) c)) ≡ length (codeplugBytes c) + 2 =
-            omega (arith, length-replace-bank c a i fuller g fuller-shaped, fuller-length)
+            omega (arith, length-replace-bank ed c a i fuller g fuller-shaped, fuller-length)
             in
             rw (change-is i (withEntries (insertAt j (little r))) (c .banks) noBank g)
-            (replace-bank-validated c a i fuller g fuller-shaped
+            (replace-bank-validated ed c a i fuller g fuller-shaped
             ∙ rw (e, fuller-ok (length (c .channels)) (bankPlace (codeplugBytes c) i) old-valid))
 
     -- ---- 11
@@ -189,11 +190,11 @@ module _ (c : Codeplug) (a : AcceptedCodeplug c) where
 
       pub shaped-remove-entry : Shaped (withBanks (changeAt i (withEntries (removeAt j)) (c .banks)) c)
       shaped-remove-entry =
-          rw (change-is i (withEntries (removeAt j)) (c .banks) noBank g) (shaped-replace-bank c a i emptier g emptier-shaped)
+          rw (change-is i (withEntries (removeAt j)) (c .banks) noBank g) (shaped-replace-bank ed c a i emptier g emptier-shaped)
 
-      pub remove-entry-is : fileRule (codeplugBytes (withBanks (changeAt i (withEntries (removeAt j)) (c .banks)) c)) ≡ Valid
+      pub remove-entry-is : fileRule ed (codeplugBytes (withBanks (changeAt i (withEntries (removeAt j)) (c .banks)) c)) ≡ Valid
       remove-entry-is =
           let n = length (c .channels) in
           rw (change-is i (withEntries (removeAt j)) (c .banks) noBank g)
-          (replace-bank-short c a i emptier g emptier-shaped (omega (arith, emptier-length))
+          (replace-bank-short ed c a i emptier g emptier-shaped (omega (arith, emptier-length))
           ∙ bankOk-passes n (bankPlace (codeplugBytes c) i) emptier (emptier-valid n old-valid))

@@ -13,6 +13,7 @@ use Rattle.fields.specs.Rule.{_then_, unless}
 use Rattle.fields.specs.declared.rule.Validity.{Validity}
 use Rattle.fields.specs.declared.rule.Validity.the-variants.{Valid}
 use Rattle.fields.proofs.Laws.{then-of-valid, unless-passes, AllBytes}
+use Rattle.m17.specs.declared.Edition.{Edition}
 use Rattle.channel.specs.Rule.{channelRule}
 use Rattle.layout.specs.Places.{channelPlace}
 use Rattle.file_rule.specs.File.{indexOk, fileRule}
@@ -89,7 +90,7 @@ module _ (move : ℕ → ℕ) (n : ℕ) (P : ℕ → Type 0) (below : (x : ℕ) 
 
 -- ---- other channels and banks
 
-module _ (c : Codeplug) (a : AcceptedCodeplug c) where
+module _ (ed : Edition) (c : Codeplug) (a : AcceptedCodeplug ed c) where
   module _ (l : List (List ℕ)) (m : List Bank) where
     shaped-both : length l < 65536 → Wide 90 l → Every AllBytes l → length m < 65536 → Every BankShaped m
         → length (banksBytes m) < 2 ^ 32 → Shaped (withChannels l (withBanks m c))
@@ -117,22 +118,22 @@ module _ (c : Codeplug) (a : AcceptedCodeplug c) where
       both-length = length-codeplug (withChannels l (withBanks m c)) h
 
       -- after the length only the channels can refuse
-      both-result : Every (BankValid (length l)) m → fileRule (codeplugBytes (withChannels l (withBanks m c)))
+      both-result : Every (BankValid (length l)) m → fileRule ed (codeplugBytes (withChannels l (withBanks m c)))
           ≡ unless (leb (length (codeplugBytes (withChannels l (withBanks m c)))) 1_048_576) 1 0
           then eachOf (channelIn (c .contacts)) 90 (channelsStart c) l
       unfolding withChannels withBanks _then_
       both-result g =
-          file-validated (withChannels l (withBanks m c)) h
+          file-validated (withChannels l (withBanks m c)) h ed
           ∙ rw (
             a .preamble,
-            contacts-pass 88 (c .contacts) (a .contacts),
+            contacts-pass ed 88 (c .contacts) (a .contacts),
             banksOk-passes (length l) _ m g,
             then-of-valid (eachOf (channelIn (c .contacts)) 90 (channelsStart c) l),
           )
 
       both-result-short : Every (BankValid (length l)) m
           → length (codeplugBytes (withChannels l (withBanks m c))) ≤ length (codeplugBytes c)
-          → fileRule (codeplugBytes (withChannels l (withBanks m c))) ≡ eachOf (channelIn (c .contacts)) 90 (channelsStart c) l
+          → fileRule ed (codeplugBytes (withChannels l (withBanks m c))) ≡ eachOf (channelIn (c .contacts)) 90 (channelsStart c) l
       unfolding _then_
       both-result-short g s =
           both-result g
@@ -158,7 +159,7 @@ module _ (c : Codeplug) (a : AcceptedCodeplug c) where
         (every-replace (λ s. length s ≡ 90) i r l w (h .channels)) (every-replace AllBytes i r l b (h .channelsBytes)) (h .banksFit)
         (h .banks) (h .offsetsFit)
 
-    pub replace-channel-is : fileRule (codeplugBytes (withChannels (replaceAt i r (c .channels)) c))
+    pub replace-channel-is : fileRule ed (codeplugBytes (withChannels (replaceAt i r (c .channels)) c))
         ≡ channelRule r (channelPlace (codeplugBytes c) i) (indexOk (codeplugBytes c) r)
     unfolding withBanks
     replace-channel-is =
@@ -204,7 +205,7 @@ module _ (c : Codeplug) (a : AcceptedCodeplug c) where
           (every-insert AllBytes i r l b (h .channelsBytes)) (rw (length-map (c .banks) (moveEntries (raised i))) (h .banksFit)) raised-shaped
           (rw (moved-length (raised i) (c .banks) (h .banks)) (h .offsetsFit))
 
-      pub insert-channel-is : fileRule (codeplugBytes (withChannels (insertAt i r (c .channels)) (moveChannels (raised i) c)))
+      pub insert-channel-is : fileRule ed (codeplugBytes (withChannels (insertAt i r (c .channels)) (moveChannels (raised i) c)))
           ≡ mayGrow 90 (codeplugBytes c) then channelRule r (channelPlace (codeplugBytes c) i) (indexOk (codeplugBytes c) r)
       unfolding moveChannels mayGrow
       insert-channel-is =
@@ -276,7 +277,7 @@ module _ (c : Codeplug) (a : AcceptedCodeplug c) where
         (every-remove AllBytes i l (h .channelsBytes)) (rw (length-map (c .banks) (moveEntries (lowered i))) (h .banksFit)) lowered-shaped
         (rw (moved-length (lowered i) (c .banks) (h .banks)) (h .offsetsFit))
 
-    pub remove-channel-is : fileRule (codeplugBytes (withChannels (removeAt i (c .channels)) (moveChannels (lowered i) c))) ≡ Valid
+    pub remove-channel-is : fileRule ed (codeplugBytes (withChannels (removeAt i (c .channels)) (moveChannels (lowered i) c))) ≡ Valid
     unfolding moveChannels
     remove-channel-is =
         let l = c .channels in

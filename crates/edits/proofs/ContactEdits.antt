@@ -12,6 +12,7 @@ use Rattle.fields.specs.Rule.{_then_, unless, each}
 use Rattle.fields.specs.declared.rule.Validity.{Validity}
 use Rattle.fields.specs.declared.rule.Validity.the-variants.{Valid}
 use Rattle.fields.proofs.Laws.{then-of-valid, unless-passes, AllBytes}
+use Rattle.m17.specs.declared.Edition.{Edition}
 use Rattle.contact.specs.Contact.{contactRule}
 use Rattle.channel.specs.Rule.{namedContact}
 use Rattle.channel.specs.declared.ContactIndex.{ContactIndex}
@@ -73,7 +74,7 @@ none-names i (s ∷ l) h =
 
 -- ---- other contacts and channels
 
-module _ (c : Codeplug) (a : AcceptedCodeplug c) where
+module _ (ed : Edition) (c : Codeplug) (a : AcceptedCodeplug ed c) where
   module _ (l m : List (List ℕ)) (e : length m ≡ length (c .channels)) where
     shaped-both : length l < 65536 → Wide 39 l → Every AllBytes l → Wide 90 m → Every AllBytes m
         → Shaped (withContacts l (withChannels m c))
@@ -101,13 +102,13 @@ module _ (c : Codeplug) (a : AcceptedCodeplug c) where
       both-length = omega (arith, length-codeplug (withContacts l (withChannels m c)) h, length-codeplug c (a .shaped))
 
       -- after the length only contacts and channels can refuse
-      both-result : fileRule (codeplugBytes (withContacts l (withChannels m c)))
+      both-result : fileRule ed (codeplugBytes (withContacts l (withChannels m c)))
           ≡ unless (leb (length (codeplugBytes (withContacts l (withChannels m c)))) 1_048_576) 1 0
-          then eachOf contactRule 39 88 l
+          then eachOf (contactRule ed) 39 88 l
           then eachOf (channelIn l) 90 (88 + length l * 39) m
       unfolding withContacts withChannels _then_
       both-result =
-          file-validated (withContacts l (withChannels m c)) h
+          file-validated (withContacts l (withChannels m c)) h ed
           ∙ rw (
             a .preamble,
             banksOk-passes (length m) _ (c .banks) (rw e (a .banks)),
@@ -115,15 +116,15 @@ module _ (c : Codeplug) (a : AcceptedCodeplug c) where
           )
 
       both-result-short : length l ≤ length (c .contacts)
-          → fileRule (codeplugBytes (withContacts l (withChannels m c)))
-          ≡ eachOf contactRule 39 88 l then eachOf (channelIn l) 90 (88 + length l * 39) m
+          → fileRule ed (codeplugBytes (withContacts l (withChannels m c)))
+          ≡ eachOf (contactRule ed) 39 88 l then eachOf (channelIn l) 90 (88 + length l * 39) m
       unfolding _then_
       both-result-short s =
           both-result
           ∙ rw (unless-passes (leb (length (codeplugBytes (withContacts l (withChannels m c)))) 1_048_576) 1 0
           (le-leb (length (codeplugBytes (withContacts l (withChannels m c)))) 1_048_576 (omega (arith, a .short, both-length))))
 
-  new-contact : (i : ℕ) (r : List ℕ) → contactRule r (88 + i * 39) ≡ contactRule r (contactPlace i)
+  new-contact : (i : ℕ) (r : List ℕ) → contactRule ed r (88 + i * 39) ≡ contactRule ed r (contactPlace i)
   unfolding contactPlace
   new-contact i r = refl
 
@@ -154,8 +155,8 @@ module _ (c : Codeplug) (a : AcceptedCodeplug c) where
         (every-replace (λ s. length s ≡ 39) i r l w (h .contacts)) (every-replace AllBytes i r l b (h .contactsBytes)) (h .channels)
         (h .channelsBytes)
 
-    pub replace-contact-is : fileRule (codeplugBytes (withContacts (replaceAt i r (c .contacts)) c))
-        ≡ contactRule r (contactPlace i)
+    pub replace-contact-is : fileRule ed (codeplugBytes (withContacts (replaceAt i r (c .contacts)) c))
+        ≡ contactRule ed r (contactPlace i)
         then each (keepsMode (codeplugBytes c) i (getD r 32 0)) (channelCount (codeplugBytes c)) 90 (channelPlace (codeplugBytes c) 0)
     unfolding withChannels
     replace-contact-is =
@@ -163,7 +164,7 @@ module _ (c : Codeplug) (a : AcceptedCodeplug c) where
         let k = replaceAt i r l in
         both-result-short k (c .channels) refl shaped-replace-contact (omega (arith, length-replace i r l g))
         ∙ rw (
-          replace-record contactRule 39 ContactValid contacts-pass 88 i r l g (a .contacts),
+          replace-record (contactRule ed) 39 (ContactValid ed) (contacts-pass ed) 88 i r l g (a .contacts),
           new-contact i r,
           agree (channelIn k) keepRule (ChannelValid l) keeps-or-not 90 (88 + length k * 39) (c .channels) (a .channels),
           length-replace i r l g,
@@ -211,8 +212,8 @@ module _ (c : Codeplug) (a : AcceptedCodeplug c) where
           shaped-moved (insertAt i r l) (raised i) (omega (arith, length-insert i r l g))
           (every-insert (λ s. length s ≡ 39) i r l w (h .contacts)) (every-insert AllBytes i r l b (h .contactsBytes))
 
-      pub insert-contact-is : fileRule (codeplugBytes (withContacts (insertAt i r (c .contacts)) (moveContacts (raised i) c)))
-          ≡ mayGrow 39 (codeplugBytes c) then contactRule r (contactPlace i)
+      pub insert-contact-is : fileRule ed (codeplugBytes (withContacts (insertAt i r (c .contacts)) (moveContacts (raised i) c)))
+          ≡ mayGrow 39 (codeplugBytes c) then contactRule ed r (contactPlace i)
       unfolding moveContacts mayGrow
       insert-contact-is =
           let l = c .contacts in
@@ -230,10 +231,10 @@ module _ (c : Codeplug) (a : AcceptedCodeplug c) where
           both-result k m e h
           ∙ rw (
             z,
-            insert-record contactRule 39 ContactValid contacts-pass 88 i r l g (a .contacts),
+            insert-record (contactRule ed) 39 (ContactValid ed) (contacts-pass ed) 88 i r l g (a .contacts),
             new-contact i r,
             channels-pass k (88 + length k * 39) m valid,
-            then-of-valid (contactRule r (contactPlace i)),
+            then-of-valid (contactRule ed r (contactPlace i)),
           )
 
   -- ---- 2
@@ -261,7 +262,7 @@ module _ (c : Codeplug) (a : AcceptedCodeplug c) where
         shaped-moved (removeAt i l) (lowered i) (omega (arith, length-remove i l g, h .contactsFit))
         (every-remove (λ s. length s ≡ 39) i l (h .contacts)) (every-remove AllBytes i l (h .contactsBytes))
 
-    pub remove-contact-is : fileRule (codeplugBytes (withContacts (removeAt i (c .contacts)) (moveContacts (lowered i) c))) ≡ Valid
+    pub remove-contact-is : fileRule ed (codeplugBytes (withContacts (removeAt i (c .contacts)) (moveContacts (lowered i) c))) ≡ Valid
     unfolding moveContacts _then_ isIndex
     remove-contact-is =
         let l = c .contacts in
@@ -274,4 +275,4 @@ module _ (c : Codeplug) (a : AcceptedCodeplug c) where
         (λ s. isIndex i (namedContact s) ≡ false) (λ s x q d. lowered-follows x (rw d at q)) (none-names i (c .channels) u)
         in
         both-result-short k m e h (omega (arith, length-remove i l g))
-        ∙ rw (contacts-pass 88 k (every-remove ContactValid i l (a .contacts)), channels-pass k (88 + length k * 39) m valid)
+        ∙ rw (contacts-pass ed 88 k (every-remove (ContactValid ed) i l (a .contacts)), channels-pass k (88 + length k * 39) m valid)

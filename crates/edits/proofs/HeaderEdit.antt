@@ -14,6 +14,7 @@ use Rattle.text.specs.Text.{textOk}
 use Rattle.fields.specs.Rule.{_then_, unless}
 use Rattle.fields.specs.declared.rule.Validity.the-variants.{Valid}
 use Rattle.fields.proofs.Laws.{part-left, part-right, part-part, then-valid, then-of-valid, unless-passes, field-valid, field-inside, field-passes, AllBytes, bytes-append, bytes-take}
+use Rattle.m17.specs.declared.Edition.{Edition}
 use Rattle.layout.specs.Header.{identityRule}
 use Rattle.file_rule.specs.File.{fileRule}
 use Rattle.model.specs.Codeplug.{Codeplug, codeplugBytes}
@@ -64,7 +65,7 @@ module _ (t r : List ℕ) (h : length t ≡ 82) (g : length r ≡ 72) where
         field-inside (length (newPreamble t r)) 0 42 32 5 (textOk (part r 32 32)) (omega arith),
       )
 
-module _ (c : Codeplug) (a : AcceptedCodeplug c) (r : List ℕ) (g : length r ≡ 72) (b : AllBytes r) where
+module _ (ed : Edition) (c : Codeplug) (a : AcceptedCodeplug ed c) (r : List ℕ) (g : length r ≡ 72) (b : AllBytes r) where
   pub shaped-preamble : Shaped (withPreamble (newPreamble (c .preamble) r) c)
   unfolding withPreamble
   shaped-preamble =
@@ -87,15 +88,15 @@ module _ (c : Codeplug) (a : AcceptedCodeplug c) (r : List ℕ) (g : length r �
   unfolding withPreamble
   same-length = length-codeplug (withPreamble (newPreamble (c .preamble) r) c) shaped-preamble ∙ sym (length-codeplug c (a .shaped))
 
-  pub set-header-validated : fileRule (codeplugBytes (withPreamble (newPreamble (c .preamble) r) c))
+  pub set-header-validated : fileRule ed (codeplugBytes (withPreamble (newPreamble (c .preamble) r) c))
       ≡ unless (textOk (part r 0 32)) 5 10 then unless (textOk (part r 32 32)) 5 42
   unfolding withPreamble _then_
   set-header-validated =
-      file-validated (withPreamble (newPreamble (c .preamble) r) c) shaped-preamble
+      file-validated (withPreamble (newPreamble (c .preamble) r) c) shaped-preamble ed
       ∙ rw (
         same-length,
         unless-passes (leb (length (codeplugBytes c)) 1_048_576) 1 0 (le-leb (length (codeplugBytes c)) 1_048_576 (a .short)),
-        contacts-pass 88 (c .contacts) (a .contacts),
+        contacts-pass ed 88 (c .contacts) (a .contacts),
         channels-pass (c .contacts) _ (c .channels) (a .channels),
         banksOk-passes (length (c .channels)) _ (c .banks) (a .banks),
         then-of-valid (identityRule (newPreamble (c .preamble) r)),

@@ -10,6 +10,7 @@ use lib.ListN.{length}
 use borrow.Author.Tests.{leb-true, eqb-true, not-true}
 use Rattle.fields.proofs.Laws.{AllBytes, then-valid, unless-valid}
 use Rattle.fields.specs.declared.rule.Validity.the-variants.{Valid, Refused}
+use Rattle.m17.specs.declared.Edition.{Edition}
 use Rattle.file_rule.specs.File.{fileRule}
 use Rattle.file_rule.proofs.Laws.{file-valid}
 use Rattle.journal.specs.EditSystem.{Call, edit, undo}
@@ -32,12 +33,12 @@ use Rattle.edits.specs.Demand.{OfBytes, Demand3}
 use Rattle.edits.proofs.ResultLaws.{result-bytes}
 
 -- an edit that is not refused gives an accepted file of bytes that fits the room
-kind-valid : (t : KindRead) (a : EditRequest) (room : ℕ) (f : List ℕ) → AllBytes f → fileRule f ≡ Valid → AllBytes (a .bytes)
-    → refusesKind t a room f ≡ Valid
-    → (fileRule (appliedKind t a f) ≡ Valid) × ((length (appliedKind t a f) ≤ room) × AllBytes (appliedKind t a f))
+kind-valid : (ed : Edition) (t : KindRead) (a : EditRequest) (room : ℕ) (f : List ℕ) → AllBytes f → fileRule ed f ≡ Valid → AllBytes (a .bytes)
+    → refusesKind ed t a room f ≡ Valid
+    → (fileRule ed (appliedKind t a f) ≡ Valid) × ((length (appliedKind t a f) ≤ room) × AllBytes (appliedKind t a f))
 unfolding refusesKnown refusesKind appliedKind
-kind-valid NoKind a room f bytes valid p h = let z : _≡_ {A = ℕ} 0 1 = cc in absurd (omega arith)
-kind-valid (Known k) a room f bytes valid p h =
+kind-valid ed NoKind a room f bytes valid p h = let z : _≡_ {A = ℕ} 0 1 = cc in absurd (omega arith)
+kind-valid ed (Known k) a room f bytes valid p h =
     let wide = then-valid _ _ h in
     let place = then-valid _ _ (wide .1) in
     let count = then-valid _ _ (place .1) in
@@ -46,17 +47,17 @@ kind-valid (Known k) a room f bytes valid p h =
       read .0,
       (
         leb-true _ _ (unless-valid _ _ _ (read .1)),
-        result-bytes k (a .first) (a .second) (a .bytes) f bytes p valid (eqb-true _ _ (unless-valid _ _ _ (wide .0))) (unless-valid _ _ _ (place .0))
+        result-bytes ed k (a .first) (a .second) (a .bytes) f bytes p valid (eqb-true _ _ (unless-valid _ _ _ (wide .0))) (unless-valid _ _ _ (place .0))
             (unless-valid _ _ _ (count .0)) (not-true _ (unless-valid _ _ _ (free .0))),
       ),
     )
 
-pub editing-laws : EditSystemLaws editing OfBytes
+pub editing-laws : (ed : Edition) → EditSystemLaws (editing ed) OfBytes
 unfolding refuses applied
-editing-laws =
+editing-laws ed =
     record {
-      result-valid = λ a room f bytes valid p h. kind-valid (kindOf (a .kind)) a room f bytes valid p h;
-      short = λ f h. file-valid f h .short;
+      result-valid = λ a room f bytes valid p h. kind-valid ed (kindOf (a .kind)) a room f bytes valid p h;
+      short = λ f h. file-valid ed f h .short;
     }
 
 -- ---- the promise
@@ -65,44 +66,44 @@ editing-laws =
 -- ones included: each answer is the book's, and the room holds the book's file. It says that the two calls keep faith with the book; that
 -- an edit yields the file its rule describes is what the calls' contracts and `applied` say, which both sides share.
 pub editor-promise : Demand3
-editor-promise f spare history valid bytes calls proper = promise editing OfBytes editing-laws f spare history valid bytes calls proper
+editor-promise ed f spare history valid bytes calls proper = promise (editing ed) OfBytes (editing-laws ed) f spare history valid bytes calls proper
 
 -- ---- what follows, after any list of calls
 
-module _ (f spare history : List ℕ) (valid : fileRule f ≡ Valid) (bytes : AllBytes f) (calls : List (Call editing)) (proper : EveryEdit editing OfBytes calls) where
+module _ (ed : Edition) (f spare history : List ℕ) (valid : fileRule ed f ≡ Valid) (bytes : AllBytes f) (calls : List (Call (editing ed))) (proper : EveryEdit (editing ed) OfBytes calls) where
   abbrev now : State
-  now = stateAfter editing f spare history calls
+  now = stateAfter (editing ed) f spare history calls
 
-  abbrev booked : Book editing
-  booked = bookAfter editing f spare history calls
+  abbrev booked : Book (editing ed)
+  booked = bookAfter (editing ed) f spare history calls
 
   -- 30, the file's own refusal and 31 do not arise
-  pub editor-preconditions : buffersRule editing now ≡ Valid
-  editor-preconditions = stands-after editing OfBytes editing-laws f spare history valid bytes calls proper
+  pub editor-preconditions : buffersRule (editing ed) now ≡ Valid
+  editor-preconditions = stands-after (editing ed) OfBytes (editing-laws ed) f spare history valid bytes calls proper
 
   -- the history's bytes are exactly the kept entries, newest first
-  pub editor-entries : historyOf now ≡ whole (newestFirst editing booked)
-  editor-entries = entries-after editing OfBytes editing-laws f spare history valid bytes calls proper
+  pub editor-entries : historyOf now ≡ whole (newestFirst (editing ed) booked)
+  editor-entries = entries-after (editing ed) OfBytes (editing-laws ed) f spare history valid bytes calls proper
 
   -- an edit is refused by its own refusals of the file, and then by 37 at 0 where its entry alone exceeds the history buffer: no other
-  pub editor-edit-refusals : (a : EditRequest) → OfBytes a → (n p : ℕ) → step editing (edit a) now .answer ≡ answer.Refused n p
-      → (refuses a (length (f ++ spare)) (fileOf now) ≡ Refused n p)
+  pub editor-edit-refusals : (a : EditRequest) → OfBytes a → (n p : ℕ) → step (editing ed) (edit a) now .answer ≡ answer.Refused n p
+      → (refuses ed a (length (f ++ spare)) (fileOf now) ≡ Refused n p)
       ⊎ (((n ≡ 37) × (p ≡ 0)) × (length history < entrySize (entryOf (fileOf now) (applied a (fileOf now)))))
-  editor-edit-refusals = edit-refusals editing OfBytes editing-laws f spare history valid bytes calls proper
+  editor-edit-refusals = edit-refusals (editing ed) OfBytes (editing-laws ed) f spare history valid bytes calls proper
 
   -- an undo is refused exactly where no standing edit's entry is kept, by 38 at 0; 39 does not arise
-  pub editor-undo-refusals : (n p : ℕ) → step editing undo now .answer ≡ answer.Refused n p
-      → ((n ≡ 38) × (p ≡ 0)) × (anyKept editing (booked .standing) ≡ false)
-  editor-undo-refusals = undo-refusals editing OfBytes editing-laws f spare history valid bytes calls proper
+  pub editor-undo-refusals : (n p : ℕ) → step (editing ed) undo now .answer ≡ answer.Refused n p
+      → ((n ≡ 38) × (p ≡ 0)) × (anyKept (editing ed) (booked .standing) ≡ false)
+  editor-undo-refusals = undo-refusals (editing ed) OfBytes (editing-laws ed) f spare history valid bytes calls proper
 
-  pub editor-undo-refused : anyKept editing (booked .standing) ≡ false → step editing undo now .answer ≡ answer.Refused 38 0
-  editor-undo-refused = undo-refused editing OfBytes editing-laws f spare history valid bytes calls proper
+  pub editor-undo-refused : anyKept (editing ed) (booked .standing) ≡ false → step (editing ed) undo now .answer ≡ answer.Refused 38 0
+  editor-undo-refused = undo-refused (editing ed) OfBytes (editing-laws ed) f spare history valid bytes calls proper
 
   -- an undo that is accepted takes back the last standing edit
-  pub editor-undo-takes-back : (len used n : ℕ) → step editing undo now .answer ≡ answer.Done len used n
-      → fileOf (next editing undo now) ≡ fileAfter editing f (withoutLast editing (booked .standing))
-  editor-undo-takes-back = undo-takes-back editing OfBytes editing-laws f spare history valid bytes calls proper
+  pub editor-undo-takes-back : (len used n : ℕ) → step (editing ed) undo now .answer ≡ answer.Done len used n
+      → fileOf (next (editing ed) undo now) ≡ fileAfter (editing ed) f (withoutLast (editing ed) (booked .standing))
+  editor-undo-takes-back = undo-takes-back (editing ed) OfBytes (editing-laws ed) f spare history valid bytes calls proper
 
 -- what an edit does not change stays byte for byte: an accepted file is the file of its own records
-pub records-are-the-file : (f : List ℕ) → fileRule f ≡ Valid → AllBytes f → codeplugBytes (codeplugOf f) ≡ f
-records-are-the-file f valid bytes = file-of-codeplug f (has-layout f valid bytes)
+pub records-are-the-file : (ed : Edition) (f : List ℕ) → fileRule ed f ≡ Valid → AllBytes f → codeplugBytes (codeplugOf f) ≡ f
+records-are-the-file ed f valid bytes = file-of-codeplug f (has-layout ed f valid bytes)

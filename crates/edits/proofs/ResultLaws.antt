@@ -10,6 +10,7 @@ use borrow.Author.Tests.{leb-true, ltb-true}
 use Rattle.fields.specs.declared.rule.Validity.the-variants.{Valid}
 use Rattle.fields.proofs.Laws.{AllBytes}
 use Rattle.bits.proofs.Laws.{and-right}
+use Rattle.m17.specs.declared.Edition.{Edition}
 use Rattle.file_rule.specs.File.{fileRule}
 use Rattle.model.specs.Codeplug.{Codeplug, codeplugBytes, codeplugOf}
 use Rattle.model.specs.declared.Kind.{Kind}
@@ -31,45 +32,45 @@ use Rattle.edits.proofs.EditShape.{up-to, below, may-grow, entries-fit,
 
 -- ---- reading its file
 
-pub edit-validated : (k : Kind) (i j : ℕ) (r : List ℕ) (c : Codeplug) → AcceptedCodeplug c → AllBytes r → length r ≡ recordLength k
+pub edit-validated : (ed : Edition) (k : Kind) (i j : ℕ) (r : List ℕ) (c : Codeplug) → AcceptedCodeplug ed c → AllBytes r → length r ≡ recordLength k
     → placeOk k i j c ≡ true → countOk k i c ≡ true → inUse k i c ≡ false
-    → fileRule (codeplugBytes (edited k i j r c)) ≡ resultRule k i j r (codeplugBytes c)
+    → fileRule ed (codeplugBytes (edited k i j r c)) ≡ resultRule ed k i j r (codeplugBytes c)
 unfolding edited
-edit-validated InsertContact i j r c a b w p n u =
-    insert-contact-is c a i r (up-to i (length (c .contacts)) _ p) (may-grow (length (c .contacts)) (a .shaped .contactsFit) n) w b
-edit-validated RemoveContact i j r c a b w p n u = remove-contact-is c a i (below i (length (c .contacts)) _ p) u
-edit-validated ReplaceContact i j r c a b w p n u = replace-contact-is c a i r (below i (length (c .contacts)) _ p) w b
-edit-validated InsertChannel i j r c a b w p n u =
-    insert-channel-is c a i r (up-to i (length (c .channels)) _ p) (may-grow (length (c .channels)) (a .shaped .channelsFit) n) w b
-edit-validated RemoveChannel i j r c a b w p n u = remove-channel-is c a i (below i (length (c .channels)) _ p) u
-edit-validated ReplaceChannel i j r c a b w p n u = replace-channel-is c a i r (below i (length (c .channels)) _ p) w b
-edit-validated InsertBank i j r c a b w p n u =
-    insert-bank-is c a i r (up-to i (length (c .banks)) _ p) (may-grow (length (c .banks)) (a .shaped .banksFit) n) w b
-edit-validated RemoveBank i j r c a b w p n u = remove-bank-validated c a i (below i (length (c .banks)) _ p)
-edit-validated RenameBank i j r c a b w p n u = rename-bank-is c a i (below i (length (c .banks)) _ p) r w b
-edit-validated InsertEntry i j r c a b w p n u =
+edit-validated ed InsertContact i j r c a b w p n u =
+    insert-contact-is ed c a i r (up-to i (length (c .contacts)) _ p) (may-grow (length (c .contacts)) (a .shaped .contactsFit) n) w b
+edit-validated ed RemoveContact i j r c a b w p n u = remove-contact-is ed c a i (below i (length (c .contacts)) _ p) u
+edit-validated ed ReplaceContact i j r c a b w p n u = replace-contact-is ed c a i r (below i (length (c .contacts)) _ p) w b
+edit-validated ed InsertChannel i j r c a b w p n u =
+    insert-channel-is ed c a i r (up-to i (length (c .channels)) _ p) (may-grow (length (c .channels)) (a .shaped .channelsFit) n) w b
+edit-validated ed RemoveChannel i j r c a b w p n u = remove-channel-is ed c a i (below i (length (c .channels)) _ p) u
+edit-validated ed ReplaceChannel i j r c a b w p n u = replace-channel-is ed c a i r (below i (length (c .channels)) _ p) w b
+edit-validated ed InsertBank i j r c a b w p n u =
+    insert-bank-is ed c a i r (up-to i (length (c .banks)) _ p) (may-grow (length (c .banks)) (a .shaped .banksFit) n) w b
+edit-validated ed RemoveBank i j r c a b w p n u = remove-bank-validated ed c a i (below i (length (c .banks)) _ p)
+edit-validated ed RenameBank i j r c a b w p n u = rename-bank-is ed c a i (below i (length (c .banks)) _ p) r w b
+edit-validated ed InsertEntry i j r c a b w p n u =
     let g = below i (length (c .banks)) (leb j (entriesIn i (c .banks))) p in
-    insert-entry-is c a i g j r (leb-true j (entriesIn i (c .banks)) (and-right (ltb i (length (c .banks))) _ p))
-    (may-grow (entriesIn i (c .banks)) (entries-fit c a i g) n) w b
+    insert-entry-is ed c a i g j r (leb-true j (entriesIn i (c .banks)) (and-right (ltb i (length (c .banks))) _ p))
+    (may-grow (entriesIn i (c .banks)) (entries-fit ed c a i g) n) w b
     ∙ rw (channel-count c (a .shaped))
-edit-validated RemoveEntry i j r c a b w p n u =
-    remove-entry-is c a i (below i (length (c .banks)) _ p) j
+edit-validated ed RemoveEntry i j r c a b w p n u =
+    remove-entry-is ed c a i (below i (length (c .banks)) _ p) j
     (ltb-true j (entriesIn i (c .banks)) (and-right (ltb i (length (c .banks))) _ p))
-edit-validated SetHeader i j r c a b w p n u = set-header-validated c a r w b
+edit-validated ed SetHeader i j r c a b w p n u = set-header-validated ed c a r w b
 
 -- ---- an edit of an accepted file
 
-module _ (k : Kind) (i j : ℕ) (r f : List ℕ) (bytes : AllBytes f) (record-bytes : AllBytes r) (valid : fileRule f ≡ Valid)
+module _ (ed : Edition) (k : Kind) (i j : ℕ) (r f : List ℕ) (bytes : AllBytes f) (record-bytes : AllBytes r) (valid : fileRule ed f ≡ Valid)
     (wide : length r ≡ recordLength k) (place : placeOk k i j (codeplugOf f) ≡ true) (count : countOk k i (codeplugOf f) ≡ true)
     (free : inUse k i (codeplugOf f) ≡ false) where
-  pub result-validated : fileRule (result k i j r f) ≡ resultRule k i j r f
+  pub result-validated : fileRule ed (result k i j r f) ≡ resultRule ed k i j r f
   unfolding result
   result-validated =
-      edit-validated k i j r (codeplugOf f) (codeplug-accepted f valid bytes) record-bytes wide place count free
-      ∙ ap (λ (x : List ℕ). resultRule k i j r x) (file-of-codeplug f (has-layout f valid bytes))
+      edit-validated ed k i j r (codeplugOf f) (codeplug-accepted ed f valid bytes) record-bytes wide place count free
+      ∙ ap (λ (x : List ℕ). resultRule ed k i j r x) (file-of-codeplug f (has-layout ed f valid bytes))
 
   pub result-shaped : Shaped (edited k i j r (codeplugOf f))
-  result-shaped = edited-shaped k i j r (codeplugOf f) (codeplug-accepted f valid bytes) record-bytes wide place count free
+  result-shaped = edited-shaped ed k i j r (codeplugOf f) (codeplug-accepted ed f valid bytes) record-bytes wide place count free
 
   -- the codeplug of the result is the edited one
   pub result-codeplug : codeplugOf (result k i j r f) ≡ edited k i j r (codeplugOf f)

@@ -8,6 +8,7 @@ use lib.Dec.{leb, eqb}
 use Rattle.fields.specs.Rule.{_then_, unless}
 use Rattle.fields.specs.declared.rule.Validity.{Validity}
 use Rattle.fields.specs.declared.rule.Validity.the-variants.{Refused}
+use Rattle.m17.specs.declared.Edition.{Edition}
 use Rattle.file_rule.specs.File.{fileRule}
 use Rattle.journal.specs.EditSystem.{EditSystem}
 use Rattle.model.specs.Codeplug.{codeplugOf}
@@ -26,21 +27,21 @@ pub record EditRequest : Type 0 where
   pub bytes : List ℕ
 
 -- what refuses an edit of a known kind
-unfoldable pub refusesKnown : Kind → ℕ → ℕ → List ℕ → ℕ → List ℕ → Validity
-refusesKnown k i j r room f =
+unfoldable pub refusesKnown : Edition → Kind → ℕ → ℕ → List ℕ → ℕ → List ℕ → Validity
+refusesKnown e k i j r room f =
     unless (eqb (length r) (recordLength k)) 32 0
     then unless (placeOk k i j (codeplugOf f)) 33 0
     then unless (countOk k i (codeplugOf f)) 34 0
     then unless (not (inUse k i (codeplugOf f))) 35 0
-    then fileRule (result k i j r f)
+    then fileRule e (result k i j r f)
     then unless (leb (length (result k i j r f)) room) 36 0
 
-unfoldable pub refusesKind : KindRead → EditRequest → ℕ → List ℕ → Validity
-refusesKind NoKind a room f = Refused 32 0
-refusesKind (Known k) a room f = refusesKnown k (a .first) (a .second) (a .bytes) room f
+unfoldable pub refusesKind : Edition → KindRead → EditRequest → ℕ → List ℕ → Validity
+refusesKind e NoKind a room f = Refused 32 0
+refusesKind e (Known k) a room f = refusesKnown e k (a .first) (a .second) (a .bytes) room f
 
-unfoldable pub refuses : EditRequest → ℕ → List ℕ → Validity
-refuses a room f = refusesKind (kindOf (a .kind)) a room f
+unfoldable pub refuses : Edition → EditRequest → ℕ → List ℕ → Validity
+refuses e a room f = refusesKind e (kindOf (a .kind)) a room f
 
 -- the file that the edit's rule describes (where there is no such edit, 32 was given before)
 unfoldable pub appliedKind : KindRead → EditRequest → List ℕ → List ℕ
@@ -50,5 +51,5 @@ appliedKind (Known k) a f = result k (a .first) (a .second) (a .bytes) f
 unfoldable pub applied : EditRequest → List ℕ → List ℕ
 applied a f = appliedKind (kindOf (a .kind)) a f
 
-abbrev pub editing : EditSystem
-editing = record { Edit = EditRequest; accepts = fileRule; refuses = refuses; applied = applied }
+abbrev pub editing : Edition → EditSystem
+editing e = record { Edit = EditRequest; accepts = fileRule e; refuses = refuses e; applied = applied }

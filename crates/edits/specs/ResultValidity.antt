@@ -10,6 +10,7 @@ use Rattle.text.specs.Text.{textOk}
 use Rattle.fields.specs.Rule.{_then_, unless, each}
 use Rattle.fields.specs.declared.rule.Validity.{Validity}
 use Rattle.fields.specs.declared.rule.Validity.the-variants.{Valid}
+use Rattle.m17.specs.declared.Edition.{Edition}
 use Rattle.layout.specs.Places.{channelCount, contactPlace, channelPlace}
 use Rattle.layout.specs.Banks.{entryCount, bankPlace}
 use Rattle.contact.specs.Contact.{contactRule}
@@ -33,23 +34,23 @@ unfoldable pub keepsMode : List ℕ → ℕ → ℕ → ℕ → Validity
 keepsMode f i mode p =
     unless (not (isIndex i (namedContact (part f p 90))) || eqb (getD (part f p 90) 0 0) mode) 9 (indexPlace (part f p 90) p)
 
-abbrev pub resultRule : Kind → ℕ → ℕ → List ℕ → List ℕ → Validity
-resultRule InsertContact i j r f = mayGrow 39 f then contactRule r (contactPlace i)
-resultRule RemoveContact i j r f = Valid
-resultRule ReplaceContact i j r f =
-    contactRule r (contactPlace i)
+abbrev pub resultRule : Edition → Kind → ℕ → ℕ → List ℕ → List ℕ → Validity
+resultRule e InsertContact i j r f = mayGrow 39 f then contactRule e r (contactPlace i)
+resultRule e RemoveContact i j r f = Valid
+resultRule e ReplaceContact i j r f =
+    contactRule e r (contactPlace i)
     then each (keepsMode f i (getD r 32 0)) (channelCount f) 90 (channelPlace f 0)
-resultRule InsertChannel i j r f = mayGrow 90 f then channelRule r (channelPlace f i) (indexOk f r)
-resultRule RemoveChannel i j r f = Valid
-resultRule ReplaceChannel i j r f = channelRule r (channelPlace f i) (indexOk f r)
-resultRule InsertBank i j r f = mayGrow 38 f then unless (textOk r) 5 (bankPlace f i + 4)
-resultRule RemoveBank i j r f = Valid
-resultRule RenameBank i j r f = unless (textOk r) 5 (bankPlace f i)
-resultRule InsertEntry i j r f =
+resultRule e InsertChannel i j r f = mayGrow 90 f then channelRule r (channelPlace f i) (indexOk f r)
+resultRule e RemoveChannel i j r f = Valid
+resultRule e ReplaceChannel i j r f = channelRule r (channelPlace f i) (indexOk f r)
+resultRule e InsertBank i j r f = mayGrow 38 f then unless (textOk r) 5 (bankPlace f i + 4)
+resultRule e RemoveBank i j r f = Valid
+resultRule e RenameBank i j r f = unless (textOk r) 5 (bankPlace f i)
+resultRule e InsertEntry i j r f =
     mayGrow 2 f
     then unless (ltb (little r) (channelCount f)) 11 (bankPlace f i + 34 + j * 2)
-resultRule RemoveEntry i j r f = Valid
-resultRule SetHeader i j r f = unless (textOk (part r 0 32)) 5 10 then unless (textOk (part r 32 32)) 5 42
+resultRule e RemoveEntry i j r f = Valid
+resultRule e SetHeader i j r f = unless (textOk (part r 0 32)) 5 10 then unless (textOk (part r 32 32)) 5 42
 
 -- the length of an edit's result (edit_result, proofs/LengthLaws.antt); a bank goes with its offset
 abbrev pub resultLength : Kind → ℕ → List ℕ → ℕ

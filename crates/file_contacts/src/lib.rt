@@ -8,40 +8,41 @@ use format::sizes::CONTACT_SIZE;
 use format::sizes::HEADER_SIZE;
 use layout::places::contact_count;
 use layout::places::record_bytes;
+use m17::Edition;
 ghost use mathlib.Core.Path.{_≡_};
 ghost use Prim.Native.Nat.{_<_, _^_};
 ghost use Rattle.file_rule.specs.File.{contactAt, contactsRule};
 
 // The contact at p, field by field.
-fn contact_fields(f: &[u8], p: usize) -> Validity
+fn contact_fields(f: &[u8], p: usize, edition: Edition) -> Validity
     requires { ⌜ p < 2 ^ 62 ⌝ }
-    ensures { λ r. ⌜ r ≡ contactAt (now (f .entry)) p ⌝ }
+    ensures { λ r. ⌜ r ≡ contactAt edition (now (f .entry)) p ⌝ }
 {
-    contact_validation::validate(record_bytes(f, p, CONTACT_SIZE), p)
+    contact_validation::validate(record_bytes(f, p, CONTACT_SIZE), p, edition)
 }
 
 // The contact at p: its fields are looked at one by one only where it is not valid.
-pub fn contact_at(f: &[u8], p: usize) -> Validity
+pub fn contact_at(f: &[u8], p: usize, edition: Edition) -> Validity
     requires { ⌜ p < 2 ^ 62 ⌝ }
-    ensures { λ r. ⌜ r ≡ contactAt (now (f .entry)) p ⌝ }
+    ensures { λ r. ⌜ r ≡ contactAt edition (now (f .entry)) p ⌝ }
 {
     if p + CONTACT_SIZE <= f.len() {
-        if contact_valid(f, p) {
+        if contact_valid(f, p, edition) {
             return Validity::Valid;
         }
     }
-    contact_fields(f, p)
+    contact_fields(f, p, edition)
 }
 
 // The first bad contact.
-fn find_contact(f: &[u8]) -> Validity
-    ensures { λ r. ⌜ r ≡ contactsRule (now (f .entry)) ⌝ }
+fn find_contact(f: &[u8], edition: Edition) -> Validity
+    ensures { λ r. ⌜ r ≡ contactsRule edition (now (f .entry)) ⌝ }
 {
     let contacts = contact_count(f);
     let mut i = 0;
     let mut p = HEADER_SIZE;
     while i < contacts {
-        let v = contact_fields(f, p);
+        let v = contact_fields(f, p, edition);
         if let Validity::Refused(_, _) = v {
             return v;
         }
@@ -51,11 +52,11 @@ fn find_contact(f: &[u8]) -> Validity
     Validity::Valid
 }
 
-pub fn validate_contacts(f: &[u8]) -> Validity
-    ensures { λ r. ⌜ r ≡ contactsRule (now (f .entry)) ⌝ }
+pub fn validate_contacts(f: &[u8], edition: Edition) -> Validity
+    ensures { λ r. ⌜ r ≡ contactsRule edition (now (f .entry)) ⌝ }
 {
-    if contacts_valid(f) {
+    if contacts_valid(f, edition) {
         return Validity::Valid;
     }
-    find_contact(f)
+    find_contact(f, edition)
 }

@@ -2,6 +2,7 @@
 use format::sizes::CONTACT_SIZE;
 use format::sizes::HEADER_SIZE;
 use layout::places::contact_count;
+use m17::Edition;
 ghost use mathlib.Core.Path.{_≡_};
 ghost use mathlib.Core.Bool.{true};
 ghost use Prim.Native.Nat.{_+_, _≤_};
@@ -10,16 +11,16 @@ ghost use Rattle.fields.specs.Rule.{isValid};
 ghost use Rattle.fields.specs.declared.rule.Validity.the-variants.{Valid};
 ghost use Rattle.file_rule.specs.File.{contactAt, contactsRule};
 
-pub(crate) fn contact_valid(f: &[u8], p: usize) -> bool
+pub(crate) fn contact_valid(f: &[u8], p: usize, edition: Edition) -> bool
     requires { ⌜ p + 39 ≤ length (now f) ⌝ }
-    ensures { λ r. ⌜ r ≡ isValid (contactAt (now (f .entry)) p) ⌝ }
+    ensures { λ r. ⌜ r ≡ isValid (contactAt edition (now (f .entry)) p) ⌝ }
 {
-    contact_validation::whole::is_valid(&f[p..p + CONTACT_SIZE])
+    contact_validation::whole::is_valid(&f[p..p + CONTACT_SIZE], edition)
 }
 
 // Yes only where every contact is valid.
-pub(crate) fn contacts_valid(f: &[u8]) -> bool
-    ensures { λ r. ⌜ (r ≡ true → contactsRule (now (f .entry)) ≡ Valid) ⌝ }
+pub(crate) fn contacts_valid(f: &[u8], edition: Edition) -> bool
+    ensures { λ r. ⌜ (r ≡ true → contactsRule edition (now (f .entry)) ≡ Valid) ⌝ }
 {
     let contacts = contact_count(f);
     if f.len() < HEADER_SIZE + contacts * CONTACT_SIZE {
@@ -29,7 +30,7 @@ pub(crate) fn contacts_valid(f: &[u8]) -> bool
     let mut i = 0;
     let mut p = HEADER_SIZE;
     while i < contacts {
-        ok = ok & contact_valid(f, p);
+        ok = ok & contact_valid(f, p, edition);
         i += 1;
         p += CONTACT_SIZE;
     }

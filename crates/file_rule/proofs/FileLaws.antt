@@ -10,6 +10,7 @@ use Rattle.fields.specs.Rule.{_then_, unless}
 use Rattle.fields.specs.declared.rule.Validity.{Validity}
 use Rattle.fields.specs.declared.rule.Validity.the-variants.{Valid, Refused}
 use Rattle.fields.proofs.Laws.{valid-then, then-refused, unless-passes}
+use Rattle.m17.specs.declared.Edition.{Edition}
 use Rattle.channel.specs.declared.ContactIndex.the-variants.{Index}
 use Rattle.layout.specs.Places.{contactCount, contactPlace}
 use Rattle.layout.specs.Header.{headerRule}
@@ -37,16 +38,16 @@ fromOffsets f = offsetsRule f then banksRule f
 abbrev pub fromChannels : List ℕ → Validity
 fromChannels f = channelsRule f then fromOffsets f
 
-abbrev pub fromContacts : List ℕ → Validity
-fromContacts f = contactsRule f then fromChannels f
+abbrev pub fromContacts : (ed : Edition) → List ℕ → Validity
+fromContacts ed f = contactsRule ed f then fromChannels f
 
-pub file-long : (f : List ℕ) → 1_048_576 < length f → Refused 1 0 ≡ fileRule f
+pub file-long : (ed : Edition) (f : List ℕ) → 1_048_576 < length f → Refused 1 0 ≡ fileRule ed f
 unfolding fileRule unless _then_
-file-long f h = rw (lt-leb (length f) 1_048_576 h)
+file-long ed f h = rw (lt-leb (length f) 1_048_576 h)
 
-pub file-fits : (f : List ℕ) → length f ≤ 1_048_576 → fileRule f ≡ headerRule f then fromContacts f
+pub file-fits : (ed : Edition) (f : List ℕ) → length f ≤ 1_048_576 → fileRule ed f ≡ headerRule f then fromContacts ed f
 unfolding fileRule
-file-fits f h = valid-then _ (headerRule f then fromContacts f) (unless-passes _ 1 0 (le-leb (length f) 1_048_576 h))
+file-fits ed f h = valid-then _ (headerRule f then fromContacts ed f) (unless-passes _ 1 0 (le-leb (length f) 1_048_576 h))
 
 -- the first part of what is left has the validity v: it is valid, and the rest answers for all
 pub goes-on : (all v a rest : Validity) → all ≡ a then rest → v ≡ a → v ≡ Valid → all ≡ rest

@@ -9,6 +9,7 @@ use borrow.Author.Tests.{le-leb, leb-true}
 use Rattle.fields.specs.Bytes.{part, num}
 use Rattle.fields.specs.declared.rule.Validity.the-variants.{Valid}
 use Rattle.fields.proofs.Laws.{then-valid, both-valid, unless-valid, unless-passes, each-valid}
+use Rattle.m17.specs.declared.Edition.{Edition}
 use Rattle.contact.proofs.RoundTrip as contact
 use Rattle.channel.specs.Values.{contactIndexPlace, contactIndexOf}
 use Rattle.channel.specs.Rule.{channelRule}
@@ -21,17 +22,17 @@ use Rattle.file_rule.specs.File.{contactAt, contactsRule, namesContact, 
 
 -- ---- the parts of an accepted file
 
-pub record ValidFile (f : List ℕ) : Type 0 where
+pub record ValidFile (ed : Edition) (f : List ℕ) : Type 0 where
   pub short : length f ≤ 1_048_576
   pub header : headerRule f ≡ Valid
-  pub contacts : contactsRule f ≡ Valid
+  pub contacts : contactsRule ed f ≡ Valid
   pub channels : channelsRule f ≡ Valid
   pub offsets : offsetsRule f ≡ Valid
   pub banks : banksRule f ≡ Valid
 
-pub file-valid : (f : List ℕ) → fileRule f ≡ Valid → ValidFile f
+pub file-valid : (ed : Edition) (f : List ℕ) → fileRule ed f ≡ Valid → ValidFile ed f
 unfolding fileRule
-file-valid f h =
+file-valid ed f h =
     let a = then-valid _ _ h in
     let b = then-valid _ _ (a .1) in
     let c = then-valid _ _ (b .1) in
@@ -46,29 +47,29 @@ file-valid f h =
       banks = e .1;
     }
 
-pub file-passes : (f : List ℕ) → ValidFile f → fileRule f ≡ Valid
+pub file-passes : (ed : Edition) (f : List ℕ) → ValidFile ed f → fileRule ed f ≡ Valid
 unfolding fileRule
-file-passes f g =
+file-passes ed f g =
     both-valid _ _ (unless-passes (leb (length f) 1_048_576) 1 0 (le-leb (length f) 1_048_576 (g .short)))
     (both-valid _ _ (g .header)
     (both-valid _ _ (g .contacts) (both-valid _ _ (g .channels) (both-valid _ _ (g .offsets) (g .banks)))))
 
-pub file-header : (f : List ℕ) → fileRule f ≡ Valid → 88 ≤ length f
-file-header f h = header-length f (file-valid f h .header)
+pub file-header : (ed : Edition) (f : List ℕ) → fileRule ed f ≡ Valid → 88 ≤ length f
+file-header ed f h = header-length f (file-valid ed f h .header)
 
 -- ---- contact n and channel n
 
-contact-walks : (n : ℕ) → contactPlace 0 + n * 39 ≡ contactPlace n
+pub contact-walks : (n : ℕ) → contactPlace 0 + n * 39 ≡ contactPlace n
 unfolding contactPlace
 contact-walks n = omega arith
 
-pub contact-there : (f : List ℕ) (n : ℕ) → contactsRule f ≡ Valid → n < contactCount f → contactAt f (contactPlace n) ≡ Valid
+pub contact-there : (ed : Edition) (f : List ℕ) (n : ℕ) → contactsRule ed f ≡ Valid → n < contactCount f → contactAt ed f (contactPlace n) ≡ Valid
 unfolding contactsRule
-contact-there f n h g =
-    ap (λ (p : ℕ). contactAt f p) (sym (contact-walks n)) ∙ each-valid (contactAt f) (contactCount f) 39 (contactPlace 0) h n g
+contact-there ed f n h g =
+    ap (λ (p : ℕ). contactAt ed f p) (sym (contact-walks n)) ∙ each-valid (contactAt ed f) (contactCount f) 39 (contactPlace 0) h n g
 
-pub contact-whole : (f : List ℕ) (p : ℕ) → contactAt f p ≡ Valid → 39 ≤ length (part f p 39)
-contact-whole f p h = contact.valid-length (part f p 39) p h
+pub contact-whole : (ed : Edition) (f : List ℕ) (p : ℕ) → contactAt ed f p ≡ Valid → 39 ≤ length (part f p 39)
+contact-whole ed f p h = contact.valid-length ed (part f p 39) p h
 
 channel-walks : (f : List ℕ) (n : ℕ) → channelPlace f 0 + n * 90 ≡ channelPlace f n
 unfolding channelPlace

@@ -1,5 +1,5 @@
 -- The file (document 01, "The file" and "The refusals, by number"): header, contacts, channels, the table of bank offsets, banks.
--- Reading it gives 1 first, then fields in file order, the first bad one answering.
+-- Reading it gives 1 first, then fields in file order, the first bad one answering. Addresses are read by an edition (document 02, [10]), which only contacts know.
 use Prim.Native.Nat.{ℕ, _+_}
 use mathlib.Core.Bool.{Bool, true, _&&_}
 use mathlib.Core.List.{List}
@@ -8,6 +8,7 @@ use lib.Dec.{leb, ltb, eqb}
 use Rattle.fields.specs.Bytes.{part}
 use Rattle.fields.specs.Rule.{_then_, unless, each}
 use Rattle.fields.specs.declared.rule.Validity.{Validity}
+use Rattle.m17.specs.declared.Edition.{Edition}
 use Rattle.contact.specs.Contact.{contactRule}
 use Rattle.channel.specs.Rule.{channelRule, namedContact}
 use Rattle.channel.specs.declared.ContactIndex.{ContactIndex}
@@ -18,15 +19,15 @@ use Rattle.layout.specs.Banks.{offsetsRule, banksRule}
 
 -- ---- contacts
 
-abbrev pub contactAt : List ℕ → ℕ → Validity
-contactAt f p = contactRule (part f p 39) p
+abbrev pub contactAt : Edition → List ℕ → ℕ → Validity
+contactAt e f p = contactRule e (part f p 39) p
 
 -- by what refuses the contact at a place
 abbrev pub contactsRuleBy : (ℕ → Validity) → List ℕ → Validity
 contactsRuleBy rule f = each rule (contactCount f) 39 (contactPlace 0)
 
-unfoldable pub contactsRule : List ℕ → Validity
-contactsRule f = contactsRuleBy (contactAt f) f
+unfoldable pub contactsRule : Edition → List ℕ → Validity
+contactsRule e f = contactsRuleBy (contactAt e f) f
 
 -- ---- channels: a contact index is 65,535, or below the contact count and names a contact of the channel's own mode
 
@@ -59,5 +60,5 @@ fileRuleBy contacts channels f =
     then offsetsRule f
     then banksRule f
 
-unfoldable pub fileRule : List ℕ → Validity
-fileRule f = fileRuleBy (contactsRule f) (channelsRule f) f
+unfoldable pub fileRule : Edition → List ℕ → Validity
+fileRule e f = fileRuleBy (contactsRule e f) (channelsRule f) f

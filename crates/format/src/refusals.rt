@@ -25,7 +25,7 @@ pub const BANK_ENTRY: u8 = 11;
 pub const TRAILING: u8 = 12;
 // a callsign has no character, or more than nine
 pub const CALLSIGN_LENGTH: u8 = 20;
-// a character that no callsign may hold
+// a callsign holds a character that may not stand there
 pub const CALLSIGN_FOREIGN: u8 = 21;
 // a callsign ends in a space
 pub const CALLSIGN_SPACE: u8 = 22;

@@ -12,6 +12,7 @@ use borrow.Author.Tests.{eqb-true}
 use Rattle.fields.specs.Bytes.{part, AllBytes}
 use Rattle.fields.specs.declared.rule.Validity.the-variants.{Valid}
 use Rattle.bits.specs.Packed.{numberFlagOk}
+use Rattle.m17.specs.declared.Edition.{Edition}
 use Rattle.contact.specs.Contact.{dmrRule, contactRule, settingsOf, infoOf, contactOf}
 use Rattle.contact.proofs.Laws.{ValidInfo, contact-valid}
 use Rattle.legacy.specs.Reading.{legacyNumberFlagOk, legacyContactRule, legacySettingsOf, legacyContactOf}
@@ -49,12 +50,12 @@ contact-other s j h = by (eqb (getD s 32 0) 1) refl
 pub contact-mode : (s : List ℕ) → getD (migratedContact s) 32 0 ≡ getD s 32 0
 contact-mode s = contact-other s 32 (λ _ h. omega arith)
 
-pub contact-rule : (s : List ℕ) (p : ℕ) → AllBytes s → contactRule (migratedContact s) p ≡ legacyContactRule s p
+pub contact-rule : (ed : Edition) (s : List ℕ) (p : ℕ) → AllBytes s → contactRule ed (migratedContact s) p ≡ legacyContactRule ed s p
 unfolding contactRule dmrRule legacyContactRule migratedContact
-contact-rule s p b = by (eqb (getD s 32 0) 1) refl
+contact-rule ed s p b = by (eqb (getD s 32 0) 1) refl
   where
     by : (t : Bool) → eqb (getD s 32 0) 1 ≡ t
-        → contactRule (cond t (migratedAt 37 s) s) p ≡ legacyContactRule s p
+        → contactRule ed (cond t (migratedAt 37 s) s) p ≡ legacyContactRule ed s p
     by true e =
         rw (
           at-long 37 s,
@@ -94,15 +95,15 @@ contact-one s t a b h =
     by false e = e
 
 -- one that is valid by both readings
-pub contact-stays : (s : List ℕ) (p q : ℕ) → AllBytes s → contactRule s p ≡ Valid → legacyContactRule s q ≡ Valid → migratedContact s ≡ s
+pub contact-stays : (ed : Edition) (s : List ℕ) (p q : ℕ) → AllBytes s → contactRule ed s p ≡ Valid → legacyContactRule ed s q ≡ Valid → migratedContact s ≡ s
 unfolding migratedContact
-contact-stays s p q b n l = by (eqb (getD s 32 0) 1) refl
+contact-stays ed s p q b n l = by (eqb (getD s 32 0) 1) refl
   where
     -- a DMR contact's settings, where it is valid
-    settings : (u : List ℕ) (r : ℕ) → getD u 32 0 ≡ 1 → contactRule u r ≡ Valid → numberFlagOk (getD u 37 0) ≡ true
-    settings u r m h = of (contact-valid u r h .1)
+    settings : (u : List ℕ) (r : ℕ) → getD u 32 0 ≡ 1 → contactRule ed u r ≡ Valid → numberFlagOk (getD u 37 0) ≡ true
+    settings u r m h = of (contact-valid ed u r h .1)
       where
-        of : ValidInfo u → numberFlagOk (getD u 37 0) ≡ true
+        of : ValidInfo ed u → numberFlagOk (getD u 37 0) ≡ true
         of (inl v) = v .settings
         of (inr v) = absurd (omega (arith, m, v .mode))
 
@@ -110,7 +111,7 @@ contact-stays s p q b n l = by (eqb (getD s 32 0) 1) refl
     by true e =
         let m : getD s 32 0 ≡ 1 = eqb-true _ 1 e in
         let d : migratedContact s ≡ migratedAt 37 s = rw e in
-        let v : contactRule (migratedAt 37 s) q ≡ Valid = rw (← d) (contact-rule s q b ∙ l) in
+        let v : contactRule ed (migratedAt 37 s) q ≡ Valid = rw (← d) (contact-rule ed s q b ∙ l) in
         let o = settings (migratedAt 37 s) q (at-other 37 s 32 (λ h. omega arith) ∙ m) v in
         let k : legacyNumberFlagOk (getD s 37 0) ≡ true = sym (migrated-ok (getD s 37 0) (b 37)) ∙ (rw (at-here 37 s) at o) in
         at-stays 37 s (both-zero (getD s 37 0) (b 37) (settings s p m n) k)

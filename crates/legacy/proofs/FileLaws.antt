@@ -11,6 +11,7 @@ use Rattle.fields.specs.Bytes.{part, AllBytes}
 use Rattle.fields.specs.Rule.{each}
 use Rattle.fields.specs.declared.rule.Validity.the-variants.{Valid}
 use Rattle.fields.proofs.Laws.{getD-part, bytes-part, each-same, each-valid, then-valid}
+use Rattle.m17.specs.declared.Edition.{Edition}
 use Rattle.contact.specs.Contact.{contactRule}
 use Rattle.channel.specs.Rule.{channelRule}
 use Rattle.channel.specs.declared.ContactIndex.{ContactIndex}
@@ -116,12 +117,12 @@ module _ (f : List ℕ) where
 
   -- ---- what refuses it
 
-  contacts-agree : AllBytes f → contactsRule (migrated f) ≡ legacyContactsRule f
+  contacts-agree : (ed : Edition) → AllBytes f → contactsRule ed (migrated f) ≡ legacyContactsRule ed f
   unfolding contactsRule legacyContactsRule
-  contacts-agree b =
+  contacts-agree ed b =
       rw (contactCount-same (migrated f) f migrated-front)
-      (each-same (contactAt (migrated f)) (legacyContactAt f) (contactCount f) 39 (contactPlace 0)
-      (λ i h. rw (contact-walks i, migrated-contact i h) (contact-rule (part f (contactPlace i) 39) (contactPlace i) (bytes-part f (contactPlace i) 39 b))))
+      (each-same (contactAt ed (migrated f)) (legacyContactAt ed f) (contactCount f) 39 (contactPlace 0)
+      (λ i h. rw (contact-walks i, migrated-contact i h) (contact-rule ed (part f (contactPlace i) 39) (contactPlace i) (bytes-part f (contactPlace i) 39 b))))
 
   -- a contact's mode stays, so a channel names a contact where it did
   names-agree : (mode : ℕ) (c : ContactIndex) → namesContact (migrated f) mode c ≡ namesContact f mode c
@@ -155,13 +156,13 @@ module _ (f : List ℕ) where
           (rw (names-agree (getD s 0 0) _)
           (channel-rule s (channelPlace f i) _ (bytes-part f (channelPlace f i) 90 b)))
 
-  pub files-agree : AllBytes f → fileRule (migrated f) ≡ legacyFileRule f
+  pub files-agree : (ed : Edition) → AllBytes f → fileRule ed (migrated f) ≡ legacyFileRule ed f
   unfolding fileRule legacyFileRule
-  files-agree b =
+  files-agree ed b =
       rw (
         migrated-length,
         header-same (migrated f) f migrated-front migrated-length,
-        contacts-agree b,
+        contacts-agree ed b,
         channels-agree b,
         offsets-same (migrated f) f migrated-front (offsetPlace f 0) migrated-length migrated-tail (omega arith),
         banks-same (migrated f) f migrated-front (offsetPlace f 0) migrated-length migrated-tail (omega arith),
@@ -169,27 +170,27 @@ module _ (f : List ℕ) where
 
   -- ---- a file that is valid by both readings stays
 
-  half-stays : AllBytes f → fileRule f ≡ Valid → legacyFileRule f ≡ Valid → half ≡ f
+  half-stays : (ed : Edition) → AllBytes f → fileRule ed f ≡ Valid → legacyFileRule ed f ≡ Valid → half ≡ f
   unfolding legacyFileRule legacyContactsRule
-  half-stays b n l =
+  half-stays ed b n l =
       let contacts = then-valid _ _ (then-valid _ _ (then-valid _ _ l .1) .1) .0 in
       let at : (i : ℕ) → i < contactCount f → migratedContact (part f (contactPlace i) 39) ≡ part f (contactPlace i) 39 =
-      λ i h. contact-stays (part f (contactPlace i) 39) (contactPlace i) (contactPlace 0 + i * 39) (bytes-part f (contactPlace i) 39 b)
-      (contact-there f i (file-valid f n .contacts) h)
-      (rw (← contact-walks i) (each-valid (legacyContactAt f) (contactCount f) 39 (contactPlace 0) contacts i h))
+      λ i h. contact-stays ed (part f (contactPlace i) 39) (contactPlace i) (contactPlace 0 + i * 39) (bytes-part f (contactPlace i) 39 b)
+      (contact-there ed f i (file-valid ed f n .contacts) h)
+      (rw (← contact-walks i) (each-valid (legacyContactAt ed f) (contactCount f) 39 (contactPlace 0) contacts i h))
       in
       changed-stays migratedContact 39 (contactPlace 0) (contactCount f) f (λ i h. rw (contact-walks i) (at i h))
 
-  pub migrated-stays : AllBytes f → fileRule f ≡ Valid → legacyFileRule f ≡ Valid → migrated f ≡ f
+  pub migrated-stays : (ed : Edition) → AllBytes f → fileRule ed f ≡ Valid → legacyFileRule ed f ≡ Valid → migrated f ≡ f
   unfolding migrated legacyFileRule legacyChannelsRule
-  migrated-stays b n l =
+  migrated-stays ed b n l =
       let channels = then-valid _ _ (then-valid _ _ (then-valid _ _ (then-valid _ _ l .1) .1) .1) .0 in
       let at : (i : ℕ) → i < channelCount f → migratedChannel (part f (channelPlace f i) 90) ≡ part f (channelPlace f i) 90 =
       λ i h. channel-stays (part f (channelPlace f i) 90) (channelPlace f i) (channelPlace f 0 + i * 90) (indexOk f (part f (channelPlace f i) 90)) (indexOk f (part f (channelPlace f i) 90)) (bytes-part f (channelPlace f i) 90 b)
-      (channel-there f i (file-valid f n .channels) h)
+      (channel-there f i (file-valid ed f n .channels) h)
       (rw (← channel-walks f i) (each-valid (legacyChannelAt f) (channelCount f) 90 (channelPlace f 0) channels i h))
       in
-      rw (half-stays b n l)
+      rw (half-stays ed b n l)
       (changed-stays migratedChannel 90 (channelPlace f 0) (channelCount f) f (λ i h. rw (channel-walks f i) (at i h)))
 
 -- ---- bytes stay bytes, and no two files become the same

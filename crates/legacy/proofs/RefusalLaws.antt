@@ -11,6 +11,7 @@ use Rattle.fields.specs.Rule.{_then_, unless, fieldOf, each}
 use Rattle.fields.specs.declared.rule.Validity.{Validity}
 use Rattle.fields.specs.declared.rule.Validity.the-variants.{Valid, Refused}
 use Rattle.fields.proofs.Laws.{then-valid, field-valid, field-inside, each-valid}
+use Rattle.m17.specs.declared.Edition.{Edition}
 use Rattle.contact.specs.Contact.{dmrRule, m17Rule, contactRule}
 use Rattle.channel.specs.Rule.{headRule, channelRule}
 use Rattle.layout.specs.Places.{contactCount, channelCount, contactPlace, channelPlace}
@@ -49,15 +50,15 @@ seven-each f (suc n) w p h =
 
 -- ---- a record that the new reading accepts
 
-contact-seven : (s : List ℕ) (base : ℕ) → contactRule s base ≡ Valid → OnlySeven (legacyContactRule s base)
+contact-seven : (ed : Edition) (s : List ℕ) (base : ℕ) → contactRule ed s base ≡ Valid → OnlySeven (legacyContactRule ed s base)
 unfolding contactRule dmrRule legacyContactRule
-contact-seven s base h =
+contact-seven ed s base h =
     let name = then-valid _ _ h in
     let mode = then-valid _ _ (name .1) in
     seven-then _ _ (seven-valid _ (name .0)) (seven-then _ _ (seven-valid _ (mode .0)) (by (eqb (getD s 32 0) 1) (mode .1)))
   where
-    by : (t : Bool) → cond t (dmrRule s base) (m17Rule s base) ≡ Valid
-        → OnlySeven (cond t (fieldOf (length s) base 33 4 7 true then fieldOf (length s) base 37 1 7 (legacyNumberFlagOk (getD s 37 0)) then fieldOf (length s) base 38 1 7 (eqb (getD s 38 0) 0)) (m17Rule s base))
+    by : (t : Bool) → cond t (dmrRule s base) (m17Rule ed s base) ≡ Valid
+        → OnlySeven (cond t (fieldOf (length s) base 33 4 7 true then fieldOf (length s) base 37 1 7 (legacyNumberFlagOk (getD s 37 0)) then fieldOf (length s) base 38 1 7 (eqb (getD s 38 0) 0)) (m17Rule ed s base))
     by true g =
         let id = then-valid _ _ g in
         let set = then-valid _ _ (id .1) in
@@ -78,9 +79,9 @@ channel-seven s base named h =
 
 -- ---- and a file
 
-file-seven : (f : List ℕ) → fileRule f ≡ Valid → OnlySeven (legacyFileRule f)
+file-seven : (ed : Edition) (f : List ℕ) → fileRule ed f ≡ Valid → OnlySeven (legacyFileRule ed f)
 unfolding fileRule contactsRule channelsRule legacyFileRule legacyContactsRule legacyChannelsRule
-file-seven f h =
+file-seven ed f h =
     let size = then-valid _ _ h in
     let header = then-valid _ _ (size .1) in
     let contacts = then-valid _ _ (header .1) in
@@ -88,12 +89,12 @@ file-seven f h =
     seven-then _ _ (seven-valid _ (size .0))
     (seven-then _ _ (seven-valid _ (header .0))
     (seven-then _ _
-    (seven-each (legacyContactAt f) (contactCount f) 39 (contactPlace 0)
-    (λ i l. contact-seven _ _ (each-valid (contactAt f) (contactCount f) 39 (contactPlace 0) (contacts .0) i l)))
+    (seven-each (legacyContactAt ed f) (contactCount f) 39 (contactPlace 0)
+    (λ i l. contact-seven ed _ _ (each-valid (contactAt ed f) (contactCount f) 39 (contactPlace 0) (contacts .0) i l)))
     (seven-then _ _
     (seven-each (legacyChannelAt f) (channelCount f) 90 (channelPlace f 0)
     (λ i l. channel-seven _ _ _ (each-valid (channelAt f) (channelCount f) 90 (channelPlace f 0) (channels .0) i l)))
     (seven-valid _ (channels .1)))))
 
-pub refused-by-seven : (f : List ℕ) (n p : ℕ) → fileRule f ≡ Valid → legacyFileRule f ≡ Refused n p → n ≡ 7
-refused-by-seven f n p h e = rw e at (file-seven f h)
+pub refused-by-seven : (ed : Edition) (f : List ℕ) (n p : ℕ) → fileRule ed f ≡ Valid → legacyFileRule ed f ≡ Refused n p → n ≡ 7
+refused-by-seven ed f n p h e = rw e at (file-seven ed f h)

@@ -8,6 +8,7 @@ use lib.Dec.{leb, eqb}
 use Rattle.bits.specs.declared.NumberFlag.{NumberFlag}
 use Rattle.fields.specs.Bytes.{part}
 use Rattle.fields.specs.declared.rule.Validity.{Validity}
+use Rattle.m17.specs.declared.Edition.{Edition}
 use Rattle.contact.specs.declared.Settings.{Settings}
 use Rattle.contact.specs.declared.Contact.{Contact}
 use Rattle.contact.specs.Contact.{dmrRuleBy, contactRuleBy, infoOfBy, contactOfBy}
@@ -27,8 +28,8 @@ legacyNumberFlagOk b = leb (b / 64) 2 && eqb (b % 32) 0
 
 -- ---- contacts: contact type in bits 7 and 6 of settings, rx tone in bit 5
 
-unfoldable pub legacyContactRule : List ℕ → ℕ → Validity
-legacyContactRule s base = contactRuleBy (dmrRuleBy (legacyNumberFlagOk (getD s 37 0)) s base) s base
+unfoldable pub legacyContactRule : Edition → List ℕ → ℕ → Validity
+legacyContactRule e s base = contactRuleBy e (dmrRuleBy (legacyNumberFlagOk (getD s 37 0)) s base) s base
 
 unfoldable pub legacySettingsOf : ℕ → Settings
 legacySettingsOf b = record { «contact_type» = legacyNumberFlagOf b .number; «rx_tone» = legacyNumberFlagOf b .flag }
@@ -49,11 +50,11 @@ legacyChannelOf s = channelOfBy (commonOfBy (legacyTraitsOf (getD s 1 0)) s) s
 
 -- ---- the whole file
 
-abbrev pub legacyContactAt : List ℕ → ℕ → Validity
-legacyContactAt f p = legacyContactRule (part f p 39) p
+abbrev pub legacyContactAt : Edition → List ℕ → ℕ → Validity
+legacyContactAt e f p = legacyContactRule e (part f p 39) p
 
-unfoldable pub legacyContactsRule : List ℕ → Validity
-legacyContactsRule f = contactsRuleBy (legacyContactAt f) f
+unfoldable pub legacyContactsRule : Edition → List ℕ → Validity
+legacyContactsRule e f = contactsRuleBy (legacyContactAt e f) f
 
 abbrev pub legacyChannelAt : List ℕ → ℕ → Validity
 legacyChannelAt f p = legacyChannelRule (part f p 90) p (indexOk f (part f p 90))
@@ -61,5 +62,5 @@ legacyChannelAt f p = legacyChannelRule (part f p 90) p (indexOk f (part f p 90)
 unfoldable pub legacyChannelsRule : List ℕ → Validity
 legacyChannelsRule f = channelsRuleBy (legacyChannelAt f) f
 
-unfoldable pub legacyFileRule : List ℕ → Validity
-legacyFileRule f = fileRuleBy (legacyContactsRule f) (legacyChannelsRule f) f
+unfoldable pub legacyFileRule : Edition → List ℕ → Validity
+legacyFileRule e f = fileRuleBy (legacyContactsRule e f) (legacyChannelsRule f) f

@@ -19,6 +19,7 @@ use layout_validation::banks::validate_banks;
 use layout_validation::banks::validate_offsets;
 use layout_validation::header::validate_header;
 use legacy::number_flag_ok;
+use m17::Edition;
 use validation::Validated;
 ghost use mathlib.Core.Path.{_≡_};
 ghost use Prim.Native.Nat.{_<_, _^_};
@@ -27,27 +28,27 @@ ghost use Rattle.legacy.specs.Reading.{legacyContactAt, legacyContactsRule, leg
 ghost use Rattle.legacy_validation.specs.Validation.{legacyValidation};
 
 // The contact at p: its fields are looked at one by one only where it is not valid.
-fn contact_at(f: &[u8], p: usize) -> Validity
+fn contact_at(f: &[u8], p: usize, edition: Edition) -> Validity
     requires { ⌜ p < 2 ^ 62 ⌝ }
-    ensures { λ r. ⌜ r ≡ legacyContactAt (now (f .entry)) p ⌝ }
+    ensures { λ r. ⌜ r ≡ legacyContactAt edition (now (f .entry)) p ⌝ }
 {
     let s = record_bytes(f, p, CONTACT_SIZE);
     if s.len() == CONTACT_SIZE {
-        if contact_validation::whole::is_valid_by(s, number_flag_ok(s[37])) {
+        if contact_validation::whole::is_valid_by(s, number_flag_ok(s[37]), edition) {
             return Validity::Valid;
         }
     }
-    contact_validation::validate_by(s, p, number_flag_ok(byte_at(s, 37)))
+    contact_validation::validate_by(s, p, number_flag_ok(byte_at(s, 37)), edition)
 }
 
-fn validate_contacts(f: &[u8]) -> Validity
-    ensures { λ r. ⌜ r ≡ legacyContactsRule (now (f .entry)) ⌝ }
+fn validate_contacts(f: &[u8], edition: Edition) -> Validity
+    ensures { λ r. ⌜ r ≡ legacyContactsRule edition (now (f .entry)) ⌝ }
 {
     let contacts = contact_count(f);
     let mut i = 0;
     let mut p = HEADER_SIZE;
     while i < contacts {
-        let v = contact_at(f, p);
+        let v = contact_at(f, p, edition);
         if let Validity::Refused(_, _) = v {
             return v;
         }
@@ -91,24 +92,24 @@ fn validate_channels(f: &[u8]) -> Validity
 }
 
 // The first refusal of a file by the legacy reading.
-pub fn validity_of(f: &[u8]) -> Validity
-    ensures { λ r. ⌜ r ≡ legacyFileRule (now (f .entry)) ⌝ }
+pub fn validity_of(f: &[u8], edition: Edition) -> Validity
+    ensures { λ r. ⌜ r ≡ legacyFileRule edition (now (f .entry)) ⌝ }
 {
     if FILE_MAX < f.len() {
         return Validity::Refused(TOO_LONG, 0);
     }
     let header = validate_header(f);
-    let contacts = validate_contacts(f);
+    let contacts = validate_contacts(f, edition);
     let channels = validate_channels(f);
     let banks = first(validate_offsets(f), validate_banks(f));
     first(header, first(contacts, first(channels, banks)))
 }
 
 // Whether a file is accepted by the legacy reading, with its three counts, or its refusal.
-pub fn validate(f: &[u8]) -> Validated
-    ensures { λ r. ⌜ r ≡ legacyValidation (now (f .entry)) ⌝ }
+pub fn validate(f: &[u8], edition: Edition) -> Validated
+    ensures { λ r. ⌜ r ≡ legacyValidation edition (now (f .entry)) ⌝ }
 {
-    match validity_of(f) {
+    match validity_of(f, edition) {
         Validity::Valid => Validated::Accepted(counts_of(f)),
         Validity::Refused(n, p) => Validated::Refused(n, p),
     }

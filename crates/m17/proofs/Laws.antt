@@ -2,23 +2,25 @@
 use Prim.Native.Nat.{ℕ, zero, suc, _+_, _-_, _*_, _/_, _%_, _^_, _≤_, _<_}
 use mathlib.Core.Path.{_≡_, refl, sym, _∙_}
 use mathlib.Core.Bool.{Bool, true, false, _&&_, _||_, cond, false≢true}
-use mathlib.Core.List.{List, [], _∷_, _++_, append-assoc, append-nil}
+use mathlib.Core.List.{List, [], _∷_}
 use mathlib.Core.Logic.{_⊎_, inl, inr, ⊎-elim}
 use native.Mathlib.Omega.{arith}
 use native.Mathlib.Nat.{pow-suc, le-of-suc-le-suc, not-suc-le-zero, eq-zero-or-pos, pow-le-pow-right}
 use native.Mathlib.Numerals.{add-one}
-use lib.ListN.{length, getD, take, drop, set, replicate, length-drop, take-append-drop}
-use lib.Seq.{drop-cons, take-suc-set, drop-set-lt, drop-drop, length-take-le, paste-suc}
+use lib.ListN.{length, getD, drop, length-drop}
+use lib.Seq.{drop-cons}
 use lib.Dec.{T, leb, eqb, eqb→eq, leb→le}
 use borrow.Author.Tests.{le-leb, lt-leb, lt-ltb, le-ltb, eq-eqb, ne-eqb, leb-true, leb-false, eqb-true, eqb-false}
+use Rattle.m17.specs.declared.Edition.{Edition}
+use Rattle.m17.specs.declared.Edition.the-variants.{Older, Newer}
 use Rattle.m17.specs.declared.Address.{Address}
 use Rattle.m17.specs.declared.Address.the-variants.{Callsign, Broadcast}
 use Rattle.m17.specs.declared.Encoded.the-variants as encoded
 use Rattle.m17.specs.declared.Decoded.the-variants as decoded
 use Rattle.fields.proofs.TableLaws.{every, below}
-use Rattle.m17.specs.Address.{broadcast, decoding, decodedBy, decodedInto, within, digitOf, foreign, charOf, addressOf, firstForeign, endsInSpace, encoding, isCallsign, addressOk, textUpTo, textFor, addressNumber, addressFor, addressValid}
+use Rattle.m17.specs.Address.{broadcast, hashSign, lastHash, lastPlain, lastOf, hashSigns, foreignPlace, numberOf, decoding, decodedBy, decodedInto, within, digitOf, foreign, charOf, addressOf, firstForeign, endsInSpace, encoding, isCallsign, addressOk, textUpTo, addressNumber, addressFor, addressValid}
 
-split : (a b : ℕ) → (a ≤ b) ⊎ (b < a)
+pub split : (a b : ℕ) → (a ≤ b) ⊎ (b < a)
 split a b = go (leb a b) refl
   where
     go : (t : Bool) → leb a b ≡ t → (a ≤ b) ⊎ (b < a)
@@ -206,12 +208,12 @@ address-step s i p l =
 
 -- ---- the text's last character
 
-ends-tail : (c : ℕ) (s : List ℕ) → endsInSpace (c ∷ s) ≡ false → endsInSpace s ≡ false
+pub ends-tail : (c : ℕ) (s : List ℕ) → endsInSpace (c ∷ s) ≡ false → endsInSpace s ≡ false
 unfolding endsInSpace
 ends-tail c [] e = refl
 ends-tail c (d ∷ s) e = e
 
-ends-cons : (c : ℕ) (s : List ℕ) → (s ≡ [] → eqb c 32 ≡ false) → endsInSpace s ≡ false → endsInSpace (c ∷ s) ≡ false
+pub ends-cons : (c : ℕ) (s : List ℕ) → (s ≡ [] → eqb c 32 ≡ false) → endsInSpace s ≡ false → endsInSpace (c ∷ s) ≡ false
 unfolding endsInSpace
 ends-cons c [] f e = f refl
 ends-cons c (d ∷ s) f e = e
@@ -313,67 +315,59 @@ ends-text (suc k) n h =
     char-solid (n % 40) (omega arith) (mod-lt-40 n))
     (ends-text k (n / 40) (div-lt k n h)))
 
--- ---- the text loop: what is written, and what is left to write
+-- ---- the hash sign that begins a text
 
-module _ (n : ℕ) (bytes : List ℕ) (len rest : ℕ) (nine : length bytes ≡ 9) (low : len < 9) where
-  pub text-step : 0 < rest → textFor n ≡ take len bytes ++ textUpTo (9 - len) rest
-      → textFor n ≡ take (len + 1) (set bytes len (charOf (rest % 40))) ++ textUpTo (9 - (len + 1)) (rest / 40)
-  text-step p e =
-      let k : 9 - len ≡ suc (9 - (len + 1)) = omega arith in
-      let h : len < length bytes = omega arith in
-      let q : textUpTo (9 - len) rest ≡ charOf (rest % 40) ∷ textUpTo (9 - (len + 1)) (rest / 40) = rw k (text-cons (9 - (len + 1)) rest p) in
-      rw (e, q, add-one, take-suc-set bytes len (charOf (rest % 40)) h, append-assoc)
+-- a text that begins with one, by the newer edition
+pub record HashText (e : Edition) (s : List ℕ) : Type 0 where
+  pub rest : List ℕ
+  pub begins : s ≡ hashSign ∷ rest
+  pub one : hashSigns e s ≡ 1
+  pub newer : e ≡ Newer
 
-  pub zeros-step : (a : ℕ) → drop len bytes ≡ replicate (9 - len) 0 → drop (len + 1) (set bytes len a) ≡ replicate (9 - (len + 1)) 0
-  zeros-step a e =
-      let k : 9 - len ≡ suc (9 - (len + 1)) = omega arith in
-      let h : len < len + 1 = omega arith in
-      rw (drop-set-lt (len + 1) bytes len a h, ← drop-drop 1 len bytes, e, k)
+pub signs-or-none : (e : Edition) (s : List ℕ) → (hashSigns e s ≡ 0) ⊎ HashText e s
+unfolding hashSigns
+signs-or-none Older s = inl refl
+signs-or-none Newer [] = inl refl
+signs-or-none Newer (c ∷ s) = by (eqb c hashSign) refl
+  where
+    by : (b : Bool) → eqb c hashSign ≡ b → (hashSigns Newer (c ∷ s) ≡ 0) ⊎ HashText Newer (c ∷ s)
+    by true t = inr (record { rest = s; begins = rw (eqb-true c hashSign t); one = rw t; newer = refl })
+    by false t = inl (rw t)
 
--- the loop's end
-pub text-done : (n : ℕ) (bytes : List ℕ) (len : ℕ) → length bytes ≡ 9 → len ≤ 9 → textFor n ≡ take len bytes ++ [] → drop len bytes ≡ replicate (9 - len) 0
-    → (bytes ≡ textFor n ++ replicate (9 - length (textFor n)) 0) × (len ≡ length (textFor n))
-text-done n bytes len nine low a z =
-    let e : textFor n ≡ take len bytes = a ∙ append-nil (take len bytes) in
-    let h : length (take len bytes) ≡ len = length-take-le len bytes (omega arith) in
-    (rw (e, h, ← z) (sym (take-append-drop len bytes)), rw (e, h))
-
--- ---- the copy loop
-
-pub nine-step : (x d s : List ℕ) (i : ℕ) → x ≡ take i s ++ drop i d → i < length s → length s ≤ length d → set x i (getD s i 0) ≡ take (i + 1) s ++ drop (i + 1) d
-nine-step x d s i e h l =
-    let k : 0 + i ≡ i = omega arith in
-    let j : 0 + suc i ≡ suc i = omega arith in
-    let b : 0 + i < length d = omega arith in
-    rw (e, add-one) (rw (k, j) at (paste-suc d 0 s i 0 b h))
+-- the hash sign has no digit, so a text with no foreign character does not begin with one
+pub native-signs : (e : Edition) (s : List ℕ) → firstForeign s ≡ length s → hashSigns e s ≡ 0
+native-signs e s f = ⊎-elim (λ z. z) (λ h. absurd (no (h .rest) (rw (h .begins) at f))) (signs-or-none e s)
+  where
+    no : (t : List ℕ) → firstForeign (hashSign ∷ t) ≡ length (hashSign ∷ t) → ⊥
+    no t g = let z : firstForeign (hashSign ∷ t) ≡ 0 = (unfold firstForeign foreign digitOf within in refl) in omega arith
 
 -- ---- the answers to a text, by what holds of it
 
-pub encoding-length : (s : List ℕ) → within 1 9 (length s) ≡ false → encoding s ≡ encoded.Refused 20 0
+pub encoding-length : (e : Edition) (s : List ℕ) → within 1 9 (length s) ≡ false → encoding e s ≡ encoded.Refused 20 0
 unfolding encoding
-encoding-length s l = rw l
+encoding-length e s l = rw l
 
-module _ (s : List ℕ) (some : 0 < length s) (few : length s ≤ 9) where
-  pub encoding-foreign : firstForeign s < length s → encoding s ≡ encoded.Refused 21 (firstForeign s)
+module _ (e : Edition) (s : List ℕ) (some : 0 < length s) (few : length s ≤ 9) where
+  pub encoding-foreign : foreignPlace e s < length s → encoding e s ≡ encoded.Refused 21 (foreignPlace e s)
   unfolding encoding
-  encoding-foreign f = rw (within-in 1 9 (length s) some few, lt-ltb (firstForeign s) (length s) f)
+  encoding-foreign f = rw (within-in 1 9 (length s) some few, lt-ltb (foreignPlace e s) (length s) f)
 
-  pub encoding-space : length s ≤ firstForeign s → getD s (length s - 1) 0 ≡ 32 → encoding s ≡ encoded.Refused 22 0
+  pub encoding-space : length s ≤ foreignPlace e s → getD s (length s - 1) 0 ≡ 32 → encoding e s ≡ encoded.Refused 22 0
   unfolding encoding
-  encoding-space f e =
+  encoding-space f g =
       rw (
         within-in 1 9 (length s) some few,
-        le-ltb (firstForeign s) (length s) f,
+        le-ltb (foreignPlace e s) (length s) f,
         ends-last s (length s - 1) (omega arith),
-        eq-eqb (getD s (length s - 1) 0) 32 e,
+        eq-eqb (getD s (length s - 1) 0) 32 g,
       )
 
-  pub encoding-solid : length s ≤ firstForeign s → endsInSpace s ≡ false → encoding s ≡ encoded.Number (addressOf s)
+  pub encoding-solid : length s ≤ foreignPlace e s → endsInSpace s ≡ false → encoding e s ≡ encoded.Number (numberOf e s)
   unfolding encoding
-  encoding-solid f e = rw (within-in 1 9 (length s) some few, le-ltb (firstForeign s) (length s) f, e)
+  encoding-solid f g = rw (within-in 1 9 (length s) some few, le-ltb (foreignPlace e s) (length s) f, g)
 
-  pub encoding-number : length s ≤ firstForeign s → (getD s (length s - 1) 0 ≡ 32 → ⊥) → encoding s ≡ encoded.Number (addressOf s)
-  encoding-number f e = encoding-solid f (ends-last s (length s - 1) (omega arith) ∙ ne-eqb (getD s (length s - 1) 0) 32 e)
+  pub encoding-number : length s ≤ foreignPlace e s → (getD s (length s - 1) 0 ≡ 32 → ⊥) → encoding e s ≡ encoded.Number (numberOf e s)
+  encoding-number f g = encoding-solid f (ends-last s (length s - 1) (omega arith) ∙ ne-eqb (getD s (length s - 1) 0) 32 g)
 
 -- ---- the answers to a number, by what holds of it
 
@@ -381,30 +375,35 @@ pub and-true : (a b : Bool) → (a && b) ≡ true → (a ≡ true) × (b ≡ tru
 and-true true b e = (refl, e)
 and-true false b e = absurd (false≢true e)
 
-pub callsign-range : (n : ℕ) → isCallsign n ≡ true → (0 < n) × (n < 40 ^ 9)
+pub last-le : (e : Edition) → lastOf e ≤ lastHash
+last-le Older = omega arith
+last-le Newer = omega arith
+
+pub last-ge : (e : Edition) → lastPlain ≤ lastOf e
+last-ge Older = omega arith
+last-ge Newer = omega arith
+
+pub callsign-bounds : (e : Edition) (n : ℕ) → isCallsign e n ≡ true → (0 < n) × (n ≤ lastOf e)
 unfolding isCallsign within
-callsign-range n e =
-    let b : (leb 1 n ≡ true) × (leb n 262_143_999_999_999 ≡ true) = and-true (leb 1 n) (leb n 262_143_999_999_999) e in
-    let h : n ≤ 262_143_999_999_999 = leb-true n 262_143_999_999_999 (b .1) in
-    (leb-true 1 n (b .0), omega arith)
+callsign-bounds e n t =
+    let b : (leb 1 n ≡ true) × (leb n (lastOf e) ≡ true) = and-true (leb 1 n) (leb n (lastOf e)) t in
+    (leb-true 1 n (b .0), leb-true n (lastOf e) (b .1))
 
-pub decoding-short : (out : List ℕ) (n : ℕ) → length out < 9 → (decoded.Refused 24 0 ≡ decoding (length out) n) × (out ≡ decodedInto out n)
+pub callsign-range : (e : Edition) (n : ℕ) → isCallsign e n ≡ true → (0 < n) × (n ≤ lastHash)
+callsign-range e n t = let b : (0 < n) × (n ≤ lastOf e) = callsign-bounds e n t in (b .0, omega (arith, last-le e))
+
+pub decoding-short : (e : Edition) (out : List ℕ) (n : ℕ) → length out < 9 → (decoded.Refused 24 0 ≡ decoding e (length out) n) × (out ≡ decodedInto e out n)
 unfolding decoding decodedInto decodedBy
-decoding-short out n h = simp (lt-ltb (length out) 9 h) (refl, refl)
+decoding-short e out n h = simp (lt-ltb (length out) 9 h) (refl, refl)
 
-module _ (out : List ℕ) (n : ℕ) (room : 9 ≤ length out) where
-  pub decoding-text : (bytes : List ℕ) (len : ℕ) → isCallsign n ≡ true → bytes ≡ textFor n ++ replicate (9 - length (textFor n)) 0 → len ≡ length (textFor n)
-      → (decoded.Text len ≡ decoding (length out) n) × (bytes ++ drop 9 out ≡ decodedInto out n)
+module _ (e : Edition) (out : List ℕ) (n : ℕ) (room : 9 ≤ length out) where
+  pub decoding-broadcast : isCallsign e n ≡ false → n ≡ broadcast → (decoded.Broadcast ≡ decoding e (length out) n) × (out ≡ decodedInto e out n)
   unfolding decoding decodedInto decodedBy
-  decoding-text bytes len e b l = rw (b, l, le-ltb (length out) 9 room, e) (refl, append-assoc (textFor n) (replicate (9 - length (textFor n)) 0) (drop 9 out))
+  decoding-broadcast t b = rw (le-ltb (length out) 9 room, t, eq-eqb n broadcast b) (refl, refl)
 
-  pub decoding-broadcast : isCallsign n ≡ false → n ≡ broadcast → (decoded.Broadcast ≡ decoding (length out) n) × (out ≡ decodedInto out n)
+  pub decoding-invalid : isCallsign e n ≡ false → (n ≡ broadcast → ⊥) → (decoded.Refused 23 0 ≡ decoding e (length out) n) × (out ≡ decodedInto e out n)
   unfolding decoding decodedInto decodedBy
-  decoding-broadcast e b = rw (le-ltb (length out) 9 room, e, eq-eqb n broadcast b) (refl, refl)
-
-  pub decoding-invalid : isCallsign n ≡ false → (n ≡ broadcast → ⊥) → (decoded.Refused 23 0 ≡ decoding (length out) n) × (out ≡ decodedInto out n)
-  unfolding decoding decodedInto decodedBy
-  decoding-invalid e b = rw (le-ltb (length out) 9 room, e, ne-eqb n broadcast b) (refl, refl)
+  decoding-invalid t b = rw (le-ltb (length out) 9 room, t, ne-eqb n broadcast b) (refl, refl)
 
 -- ---- the address enum
 
@@ -416,40 +415,44 @@ addressNumber-for n = go (eqb n broadcast) refl
     go true e = sym (eqb-true n broadcast e)
     go false e = refl
 
-callsign-not-broadcast : (n : ℕ) → isCallsign n ≡ true → eqb n broadcast ≡ false
-callsign-not-broadcast n c = let r : (0 < n) × (n < 40 ^ 9) = callsign-range n c in ne-eqb n broadcast (omega arith)
+callsign-not-broadcast : (e : Edition) (n : ℕ) → isCallsign e n ≡ true → eqb n broadcast ≡ false
+callsign-not-broadcast e n c = let r : (0 < n) × (n ≤ lastHash) = callsign-range e n c in ne-eqb n broadcast (omega arith)
 
-pub addressFor-number : (a : Address) → addressValid a ≡ true → addressFor (addressNumber a) ≡ a
+pub broadcast-no-callsign : (e : Edition) (n : ℕ) → n ≡ broadcast → isCallsign e n ≡ false
+unfolding isCallsign
+broadcast-no-callsign e n b = within-above 1 (lastOf e) n (omega (arith, last-le e))
+
+pub addressFor-number : (e : Edition) (a : Address) → addressValid e a ≡ true → addressFor (addressNumber a) ≡ a
 unfolding addressFor addressNumber addressValid
-addressFor-number (Callsign n) g = rw (callsign-not-broadcast n g)
-addressFor-number Broadcast g = refl
+addressFor-number e (Callsign n) g = rw (callsign-not-broadcast e n g)
+addressFor-number e Broadcast g = refl
 
-pub addressValid-for : (n : ℕ) → addressOk n ≡ true → addressValid (addressFor n) ≡ true
+pub addressValid-for : (e : Edition) (n : ℕ) → addressOk e n ≡ true → addressValid e (addressFor n) ≡ true
 unfolding addressOk addressFor addressValid
-addressValid-for n k = go (eqb n broadcast) k
+addressValid-for e n k = go (eqb n broadcast) k
   where
     or-false : (b : Bool) → (b || false) ≡ true → b ≡ true
     or-false true e = refl
     or-false false e = e
 
-    go : (b : Bool) → (isCallsign n || b) ≡ true → addressValid (cond b Broadcast (Callsign n)) ≡ true
-    go true e = refl
-    go false e = or-false (isCallsign n) e
+    go : (b : Bool) → (isCallsign e n || b) ≡ true → addressValid e (cond b Broadcast (Callsign n)) ≡ true
+    go true t = refl
+    go false t = or-false (isCallsign e n) t
 
-pub addressOk-number : (a : Address) → addressValid a ≡ true → addressOk (addressNumber a) ≡ true
+pub addressOk-number : (e : Edition) (a : Address) → addressValid e a ≡ true → addressOk e (addressNumber a) ≡ true
 unfolding addressOk addressNumber addressValid
-addressOk-number (Callsign n) g = rw g
-addressOk-number Broadcast g = or-true (isCallsign broadcast)
+addressOk-number e (Callsign n) g = rw g
+addressOk-number e Broadcast g = or-true (isCallsign e broadcast)
   where
     or-true : (b : Bool) → (b || true) ≡ true
     or-true true = refl
     or-true false = refl
 
 -- an address's number fits its six bytes
-pub addressNumber-lt : (a : Address) → addressValid a ≡ true → addressNumber a < 2 ^ 48
+pub addressNumber-lt : (e : Edition) (a : Address) → addressValid e a ≡ true → addressNumber a < 2 ^ 48
 unfolding addressNumber addressValid
-addressNumber-lt (Callsign n) g = let r : (0 < n) × (n < 40 ^ 9) = callsign-range n g in omega arith
-addressNumber-lt Broadcast g = omega arith
+addressNumber-lt e (Callsign n) g = let r : (0 < n) × (n ≤ lastHash) = callsign-range e n g in omega arith
+addressNumber-lt e Broadcast g = omega arith
 
-pub addressOk-lt : (n : ℕ) → addressOk n ≡ true → n < 2 ^ 48
-addressOk-lt n k = rw addressNumber-for at (addressNumber-lt (addressFor n) (addressValid-for n k))
+pub addressOk-lt : (e : Edition) (n : ℕ) → addressOk e n ≡ true → n < 2 ^ 48
+addressOk-lt e n k = rw addressNumber-for at (addressNumber-lt e (addressFor n) (addressValid-for e n k))

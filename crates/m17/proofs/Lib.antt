@@ -1,3 +1,4 @@
--- Laws of M17 addresses, and that callsigns and their numbers map one to one.
+-- Laws of addresses; that callsigns and numbers map one to one; the two editions beside each other.
 pub mod Laws
 pub mod OneToOne
+pub mod Editions

@@ -1,9 +1,12 @@
--- M17 addresses (document 01, "M17 addresses"): a text of 1 to 9 characters is the sum of digit × 40^position.
+-- M17 addresses (document 01, "M17 addresses"): a text of 1 to 9 characters is the sum of digit × 40^position. By the newer edition a text may begin with a
+-- hash sign (document 02, [10]). A callsign is whatever has a text, a hash address too.
 use Prim.Native.Nat.{ℕ, zero, suc, _+_, _-_, _*_, _/_, _%_}
 use mathlib.Core.Bool.{Bool, true, false, _&&_, _||_, not, cond}
 use mathlib.Core.List.{List, [], _∷_, _++_}
 use lib.ListN.{length, drop, replicate}
 use lib.Dec.{leb, ltb, eqb}
+use Rattle.m17.specs.declared.Edition.{Edition}
+use Rattle.m17.specs.declared.Edition.the-variants.{Older, Newer}
 use Rattle.m17.specs.declared.Address.{Address}
 use Rattle.m17.specs.declared.Address.the-variants.{Callsign, Broadcast}
 use Rattle.m17.specs.declared.Encoded.{Encoded}
@@ -58,43 +61,77 @@ endsInSpace [] = false
 endsInSpace (c ∷ []) = eqb c 0x20
 endsInSpace (c ∷ (d ∷ s)) = endsInSpace (d ∷ s)
 
--- 20 a text of 0 or over 9 characters; 21 a foreign character, at its position; 22 it ends in a space
-unfoldable pub encoding : List ℕ → Encoded
-encoding s =
+-- ---- the same with a hash sign in front (document 02, [10])
+
+abbrev pub hashSign : ℕ
+hashSign = 0x23
+
+-- 40^9: the hash sign alone
+abbrev pub firstHash : ℕ
+firstHash = 262_144_000_000_000
+
+-- 1 where the first character is a hash sign and the edition the newer, else 0
+unfoldable pub hashSigns : Edition → List ℕ → ℕ
+hashSigns Older s = 0
+hashSigns Newer [] = 0
+hashSigns Newer (c ∷ s) = cond (eqb c hashSign) 1 0
+
+-- the position of the first foreign character of the whole text; a hash sign that begins it is none
+unfoldable pub foreignPlace : Edition → List ℕ → ℕ
+foreignPlace e s = hashSigns e s + firstForeign (drop (hashSigns e s) s)
+
+-- the number of the text behind the hash sign, plus 40^9 where there is one
+unfoldable pub numberOf : Edition → List ℕ → ℕ
+numberOf e s = hashSigns e s * firstHash + addressOf (drop (hashSigns e s) s)
+
+-- 20 a text of 0 or over 9 characters, the hash sign counted; 21 a foreign character, at its position; 22 it ends in a space
+unfoldable pub encoding : Edition → List ℕ → Encoded
+encoding e s =
     cond (not (within 1 9 (length s))) (encoded.Refused 20 0)
-    (cond (ltb (firstForeign s) (length s)) (encoded.Refused 21 (firstForeign s))
+    (cond (ltb (foreignPlace e s) (length s)) (encoded.Refused 21 (foreignPlace e s))
     (cond (endsInSpace s) (encoded.Refused 22 0)
-    (encoded.Number (addressOf s))))
+    (encoded.Number (numberOf e s))))
 
 -- ---- a number to its text
 
--- 40^9 - 1, the number of nine dots
-abbrev pub lastCallsign : ℕ
-lastCallsign = 262_143_999_999_999
+-- 40^9 - 1, the number of nine dots: the last text without a hash sign
+abbrev pub lastPlain : ℕ
+lastPlain = 262_143_999_999_999
+
+-- 40^9 + 40^8 - 1, the number of a hash sign and eight dots
+abbrev pub lastHash : ℕ
+lastHash = 268_697_599_999_999
 
 abbrev pub broadcast : ℕ
 broadcast = 0xFFFFFFFFFFFF
 
-unfoldable pub isCallsign : ℕ → Bool
-isCallsign n = within 1 lastCallsign n
+-- the last number that has a text
+abbrev pub lastOf : Edition → ℕ
+lastOf Older = lastPlain
+lastOf Newer = lastHash
 
--- which numbers are addresses: what request [10] of document 02 moves
-unfoldable pub addressOk : ℕ → Bool
-addressOk n = isCallsign n || eqb n broadcast
+-- a number with a text: those with a hash sign follow the others without a gap
+unfoldable pub isCallsign : Edition → ℕ → Bool
+isCallsign e n = within 1 (lastOf e) n
+
+-- which numbers are addresses
+unfoldable pub addressOk : Edition → ℕ → Bool
+addressOk e n = isCallsign e n || eqb n broadcast
 
 -- the text of a number, of at most k characters
 unfoldable pub textUpTo : ℕ → ℕ → List ℕ
 textUpTo zero n = []
 textUpTo (suc k) n = cond (eqb n 0) [] (charOf (n % 40) ∷ textUpTo k (n / 40))
 
+-- past nine dots: a hash sign, and the text of at most eight characters of the number less 40^9
 unfoldable pub textFor : ℕ → List ℕ
-textFor n = textUpTo 9 n
+textFor n = cond (leb n lastPlain) (textUpTo 9 n) (hashSign ∷ textUpTo 8 (n - firstHash))
 
 -- 24 a buffer under 9 bytes; 23 an invalid number; a callsign answers its text's length
-unfoldable pub decoding : ℕ → ℕ → Decoded
-decoding room n =
+unfoldable pub decoding : Edition → ℕ → ℕ → Decoded
+decoding e room n =
     cond (ltb room 9) (decoded.Refused 24 0)
-    (cond (isCallsign n) (decoded.Text (length (textFor n)))
+    (cond (isCallsign e n) (decoded.Text (length (textFor n)))
     (cond (eqb n broadcast) decoded.Broadcast
     (decoded.Refused 23 0)))
 
@@ -104,8 +141,8 @@ decodedBy (decoded.Text len) out n = textFor n ++ (replicate (9 - length (textFo
 decodedBy decoded.Broadcast out n = out
 decodedBy (decoded.Refused number place) out n = out
 
-unfoldable pub decodedInto : List ℕ → ℕ → List ℕ
-decodedInto out n = decodedBy (decoding (length out) n) out n
+unfoldable pub decodedInto : Edition → List ℕ → ℕ → List ℕ
+decodedInto e out n = decodedBy (decoding e (length out) n) out n
 
 -- ---- the address enum, by this paper's numbers
 
@@ -121,6 +158,6 @@ isBroadcast (Callsign n) = false
 isBroadcast Broadcast = true
 
 -- a callsign's number that is one
-unfoldable pub addressValid : Address → Bool
-addressValid (Callsign n) = isCallsign n
-addressValid Broadcast = true
+unfoldable pub addressValid : Edition → Address → Bool
+addressValid e (Callsign n) = isCallsign e n
+addressValid e Broadcast = true

@@ -1,10 +1,31 @@
-// M17 addresses: which numbers are addresses, and what they mean (document 01, "M17 addresses").
+// M17 addresses: which numbers are addresses, and what they mean (document 01, "M17 addresses"; document 02, [10]).
 ghost use mathlib.Core.Path.{_≡_};
-ghost use Rattle.m17.specs.Address.{addressOk, addressFor, addressNumber, addressValid, isBroadcast, isCallsign};
+ghost use Rattle.m17.specs.Edition.{editionOf};
+ghost use Rattle.m17.specs.Address.{addressOk, addressFor, addressNumber, addressValid, isBroadcast, isCallsign, lastOf};
+
+// By which edition of the M17 specification addresses are read: the newer has hash addresses.
+pub enum Edition {
+    Older,
+    Newer,
+}
+
+// The number of the newer edition.
+const NEWER: u32 = 1;
+
+// The edition by its number: every number but the newer's is the older.
+pub fn edition_of(n: u32) -> Edition
+    ensures { λ r. ⌜ r ≡ editionOf n ⌝ }
+{
+    if n == NEWER {
+        Edition::Newer
+    } else {
+        Edition::Older
+    }
+}
 
 // What an address field of a contact means.
 pub enum Address {
-    // A callsign, by its number: 1 to 262,143,999,999,999.
+    // A callsign, by its number: 1 to 262,143,999,999,999. By the newer edition a hash address too: 262,144,000,000,000 to 268,697,599,999,999.
     Callsign(u64),
     Broadcast,
 }
@@ -22,21 +43,40 @@ pub enum Decoded {
     Refused(u8, usize),
 }
 
-const LAST_CALLSIGN: u64 = 262_143_999_999_999;
+// Nine dots.
+pub const LAST_PLAIN: u64 = 262_143_999_999_999;
+
+// The hash sign alone.
+pub const FIRST_HASH: u64 = 262_144_000_000_000;
+
+// A hash sign and eight dots.
+const LAST_HASH: u64 = 268_697_599_999_999;
 
 pub const BROADCAST: u64 = 0xFFFF_FFFF_FFFF;
 
-pub fn is_callsign(n: u64) -> bool
-    ensures { λ r. ⌜ r ≡ isCallsign n ⌝ }
+// The last number that has a text.
+fn last_of(edition: Edition) -> u64
+    ensures { λ r. ⌜ r ≡ lastOf edition ⌝ }
 {
-    1 <= n && n <= LAST_CALLSIGN
+    match edition {
+        Edition::Older => LAST_PLAIN,
+        Edition::Newer => LAST_HASH,
+    }
+}
+
+// Whether a number has a text: a callsign's or, by the newer edition, a hash address's.
+pub fn is_callsign(n: u64, edition: Edition) -> bool
+    ensures { λ r. ⌜ r ≡ isCallsign edition n ⌝ }
+{
+    let last = last_of(edition);
+    1 <= n && n <= last
 }
 
 // Whether a number is an address that a contact may hold.
-pub fn address_ok(n: u64) -> bool
-    ensures { λ r. ⌜ r ≡ addressOk n ⌝ }
+pub fn address_ok(n: u64, edition: Edition) -> bool
+    ensures { λ r. ⌜ r ≡ addressOk edition n ⌝ }
 {
-    is_callsign(n) || n == BROADCAST
+    is_callsign(n, edition) || n == BROADCAST
 }
 
 // The address that a valid number means.
@@ -69,11 +109,11 @@ pub fn is_broadcast(a: Address) -> bool
 }
 
 // Whether a contact may hold this address: a callsign's number is one.
-pub fn address_valid(a: Address) -> bool
-    ensures { λ r. ⌜ r ≡ addressValid a ⌝ }
+pub fn address_valid(a: Address, edition: Edition) -> bool
+    ensures { λ r. ⌜ r ≡ addressValid edition a ⌝ }
 {
     match a {
-        Address::Callsign(n) => is_callsign(n),
+        Address::Callsign(n) => is_callsign(n, edition),
         Address::Broadcast => true,
     }
 }

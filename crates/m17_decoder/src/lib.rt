@@ -1,16 +1,20 @@
-// An address number to its callsign's text (document 01, "M17 addresses").
+// An address number to its callsign's text (document 01, "M17 addresses"; document 02, [10]).
 mod table; // table.rt: the characters of digits
 
 use format::refusals::ADDRESS_NUMBER;
 use format::refusals::CALLSIGN_BUFFER;
 use m17::BROADCAST;
 use m17::Decoded;
+use m17::Edition;
+use m17::FIRST_HASH;
+use m17::LAST_PLAIN;
 use m17::is_callsign;
 ghost use mathlib.Core.Path.{_≡_};
 ghost use mathlib.Core.List.{_++_};
-ghost use Prim.Native.Nat.{_+_, _-_, _<_, _≤_, _^_};
+ghost use Prim.Native.Nat.{_-_, _<_, _≤_};
 ghost use lib.ListN.{length, drop, replicate};
 ghost use Rattle.m17.specs.Address.{charOf, decoding, decodedInto, textFor};
+ghost use Rattle.m17_decoder.specs.Begin.{Begun, whileRest};
 ghost use Rattle.fields.specs.Table.{Table};
 
 // The character of a digit below 40, by the table of characters.
@@ -21,53 +25,62 @@ fn character(characters: &[u8; 40], d: u8) -> u8
     characters[d as usize]
 }
 
-// A callsign's text: its characters, zeros after them, and how many there are.
-struct Text {
-    bytes: [u8; 9],
-    len: usize,
+// A value where there is a rest to write, else 0.
+fn while_rest(rest: u64, value: u8) -> u8
+    ensures { λ r. ⌜ r ≡ whileRest rest value ⌝ }
+{
+    if rest == 0 { 0 } else { value }
 }
 
-fn text_of(n: u64) -> Text
-    requires { ⌜ n < 40 ^ 9 ⌝ }
-    ensures { λ r. ⌜ (r .bytes ≡ textFor n ++ replicate (9 - length (textFor n)) 0) × (r .len ≡ length (textFor n)) ⌝ }
+// Where a text that is begun goes on: how many characters are written, and the number whose text is to follow.
+struct Start {
+    len: usize,
+    rest: u64,
+}
+
+// How a number's text begins: a hash address's with its hash sign, any other with nothing yet.
+fn begin(n: u64, out: &mut [u8]) -> Start
+    requires { ⌜ 9 ≤ length (now out) ⌝ }
+    ensures { λ r. ⌜ Begun n (now (out .entry)) (now (out .exit)) (r .len) (r .len) (r .rest) ⌝ }
+{
+    if n <= LAST_PLAIN {
+        return Start { len: 0, rest: n };
+    }
+    out[0] = b'#';
+    Start {
+        len: 1,
+        rest: n - FIRST_HASH,
+    }
+}
+
+// A number's text and zeros after it, into the first nine bytes; how many characters there are. No branch hangs on where the text ends.
+fn write_text(n: u64, out: &mut [u8]) -> usize
+    requires { ⌜ 9 ≤ length (now out) ⌝ }
+    ensures { λ r. ⌜ (r ≡ length (textFor n)) × (now (out .exit) ≡ textFor n ++ (replicate (9 - length (textFor n)) 0 ++ drop 9 (now (out .entry)))) ⌝ }
 {
     let characters = table::characters();
-    let mut bytes = [0u8; 9];
-    let mut len = 0;
-    let mut rest = n;
-    while 0 < rest && len < 9 {
-        bytes[len] = character(&characters, (rest % 40) as u8);
-        rest = rest / 40;
-        len += 1;
-    }
-    Text { bytes, len }
-}
-
-// Nine bytes over the start of a buffer.
-fn put_nine(out: &mut [u8], bytes: [u8; 9])
-    requires { ⌜ 9 ≤ length (now out) ⌝ }
-    ensures { λ _. ⌜ now (out .exit) ≡ bytes ++ drop 9 (now (out .entry)) ⌝ }
-{
-    let mut i = 0;
+    let start = begin(n, out);
+    let mut i = start.len;
+    let mut len = start.len;
+    let mut rest = start.rest;
     while i < 9 {
-        out[i] = bytes[i];
+        out[i] = while_rest(rest, character(&characters, (rest % 40) as u8));
+        len += while_rest(rest, 1) as usize;
+        rest = rest / 40;
         i += 1;
     }
+    len
 }
 
 // A number's text, into the first nine bytes of a buffer.
-pub fn decode(n: u64, out: &mut [u8]) -> Decoded
-    ensures { λ r. ⌜ (r ≡ decoding (length (now (out .entry))) n) × (now (out .exit) ≡ decodedInto (now (out .entry)) n) ⌝ }
+pub fn decode(n: u64, out: &mut [u8], edition: Edition) -> Decoded
+    ensures { λ r. ⌜ (r ≡ decoding edition (length (now (out .entry))) n) × (now (out .exit) ≡ decodedInto edition (now (out .entry)) n) ⌝ }
 {
     if out.len() < 9 {
         return Decoded::Refused(CALLSIGN_BUFFER, 0);
     }
-    if is_callsign(n) {
-        let t = text_of(n);
-        let len = t.len;
-        let bytes = t.bytes;
-        put_nine(out, bytes);
-        return Decoded::Text(len);
+    if is_callsign(n, edition) {
+        return Decoded::Text(write_text(n, out));
     }
     if n == BROADCAST {
         return Decoded::Broadcast;

@@ -1,2 +1,2 @@
--- Laws of the sum of a text's digits.
+-- Laws of the sum of a text's digits, and of the hash sign before them.
 pub mod SumLaws

@@ -11,6 +11,7 @@ use Rattle.fields.specs.Bytes.{part, over, AllBytes}
 use Rattle.fields.specs.declared.rule.Validity.{Validity}
 use Rattle.fields.specs.declared.rule.Validity.the-variants.{Valid, Refused}
 use Rattle.fields.proofs.Laws.{getD-part, length-part, over-byte}
+use Rattle.m17.specs.declared.Edition.{Edition}
 use Rattle.renumber.proofs.Laws.{over-inner, over-self}
 use Rattle.layout.specs.Places.{contactCount, channelCount, contactPlace, channelPlace, offsetPlace, banksPlace}
 use Rattle.edits.proofs.AcceptedCodeplug.{has-layout}
@@ -51,11 +52,11 @@ channel-moved d p h = byte-inside d p 90 1 (omega arith) h
 
 -- ---- a valid file holds all its records
 
-pub records-inside : (f : List ℕ) → AllBytes f → legacyFileRule f ≡ Valid
+pub records-inside : (ed : Edition) (f : List ℕ) → AllBytes f → legacyFileRule ed f ≡ Valid
     → (88 + contactCount f * 39 ≤ length f) × (channelPlace f 0 + channelCount f * 90 ≤ length f)
 unfolding banksPlace offsetPlace channelPlace contactPlace
-records-inside f b h =
-    let m = has-layout (migrated f) (files-agree f b ∙ h) (migrated-bytes f b) .table in
+records-inside ed f b h =
+    let m = has-layout ed (migrated f) (files-agree f ed b ∙ h) (migrated-bytes f b) .table in
     let t : banksPlace f ≤ length f = rw (banksPlace-same (migrated f) f (migrated-front f), migrated-length f) at m in
     (omega arith, omega arith)
 
@@ -72,10 +73,10 @@ migrated-in-two f d e start n c k x p q y =
 
 -- ---- what the call leaves
 
-pub left-as-is : (f : List ℕ) (v : Validity) (n p : ℕ) → v ≡ legacyFileRule f → v ≡ Refused n p → f ≡ migratedBy (legacyFileRule f) f
+pub left-as-is : (ed : Edition) (f : List ℕ) (v : Validity) (n p : ℕ) → v ≡ legacyFileRule ed f → v ≡ Refused n p → f ≡ migratedBy (legacyFileRule ed f) f
 unfolding migratedBy
-left-as-is f v n p e h = rw (← e, h)
+left-as-is ed f v n p e h = rw (← e, h)
 
-pub left-migrated : (f m : List ℕ) → legacyFileRule f ≡ Valid → m ≡ migrated f → m ≡ migratedBy (legacyFileRule f) f
+pub left-migrated : (ed : Edition) (f m : List ℕ) → legacyFileRule ed f ≡ Valid → m ≡ migrated f → m ≡ migratedBy (legacyFileRule ed f) f
 unfolding migratedBy
-left-migrated f m h e = rw (h, e)
+left-migrated ed f m h e = rw (h, e)

@@ -13,6 +13,8 @@ use Rattle.fields.specs.Rule.{_then_, unless}
 use Rattle.fields.specs.declared.rule.Validity.{Validity}
 use Rattle.fields.specs.declared.rule.Validity.the-variants.{Valid, Refused}
 use Rattle.fields.proofs.Laws.{getD-part, bytes-part}
+use Rattle.m17.specs.declared.Edition.{Edition}
+use Rattle.m17.specs.declared.Edition.the-variants.{Older, Newer}
 use Rattle.contact.specs.Contact.{contactAnswer}
 use Rattle.channel_reader.specs.Reading.{channelAnswer}
 use Rattle.layout.specs.Places.{contactCount, channelCount, bankCount, contactPlace, channelPlace, offsetPlace}
@@ -21,6 +23,7 @@ use Rattle.file_rule.specs.File.{fileRule}
 use Rattle.validation.specs.Validation.{validatedBy, validation}
 use Rattle.codeplug.specs.Read.{headerOf, headerAnswer, headerRead, placeRule, contactRead, channelRead, bankAnswer, bankRead, entriesAnswer, entriesRead, entryAnswer, entryRead}
 use Rattle.journal.specs.EditSystem.{Call}
+use Rattle.codeplug.proofs.Editions.{older-in-newer}
 use Rattle.journal.specs.Promise.{EveryEdit}
 use Rattle.edits.specs.Editing.{editing}
 use Rattle.edits.specs.Demand.{OfBytes}
@@ -33,33 +36,39 @@ use Rattle.legacy.proofs.ChannelLaws.{channel-of, channel-other}
 use Rattle.legacy.proofs.FileLaws.{migrated-front, migrated-length, migrated-contact, migrated-channel, migrated-tail, migrated-bytes, migrated-one, migrated-stays, files-agree}
 use Rattle.legacy.proofs.RefusalLaws.{refused-by-seven}
 use Rattle.legacy_validation.specs.Validation.{legacyValidation}
-use Rattle.migration.specs.Promise.{ReadingsAgree, ReadsTheSame, FieldsStay, SettingsPlace, TraitsPlace, OthersStay, NoTwoTheSame, BothStay, OthersBySeven, Demand3Migrated}
+use Rattle.migration.specs.Promise.{ReadingsAgree, LegacyOlderInNewer, ReadsTheSame, FieldsStay, SettingsPlace, TraitsPlace, OthersStay, NoTwoTheSame, BothStay, OthersBySeven, Demand3Migrated}
 
 -- ---- the two readings agree
 
 pub readings-agree : ReadingsAgree
 unfolding validation legacyValidation validatedBy
-readings-agree f b = rw (files-agree f b) (by (legacyFileRule f))
+readings-agree ed f b = rw (files-agree f ed b) (by (legacyFileRule ed f))
   where
     by : (v : Validity) → validatedBy v (migrated f) ≡ validatedBy v f
     by Valid = rw (counts-same (migrated f) f (migrated-front f))
     by (Refused n p) = refl
 
+pub legacy-older-in-newer : LegacyOlderInNewer
+unfolding legacyValidation
+legacy-older-in-newer f b h =
+    let a : legacyFileRule Newer f ≡ Valid = sym (files-agree f Newer b) ∙ older-in-newer (migrated f) (files-agree f Older b ∙ h) .0 in
+    (rw (a, h), rw (a, h))
+
 -- ---- every field reads as it did
 
-module _ (f : List ℕ) (b : AllBytes f) (h : legacyFileRule f ≡ Valid) where
+module _ (ed : Edition) (f : List ℕ) (b : AllBytes f) (h : legacyFileRule ed f ≡ Valid) where
   abbrev m : List ℕ
   m = migrated f
 
-  accepted : fileRule m ≡ Valid
-  accepted = files-agree f b ∙ h
+  accepted : fileRule ed m ≡ Valid
+  accepted = files-agree f ed b ∙ h
 
   -- a place below the count
-  place-valid : (n count : ℕ) → n < count → placeRule m n count ≡ Valid
+  place-valid : (n count : ℕ) → n < count → placeRule ed m n count ≡ Valid
   unfolding placeRule _then_ unless
   place-valid n count l = rw (accepted, lt-ltb n count l)
 
-  read-header : headerRead m ≡ record { validity = Valid; header = headerOf f }
+  read-header : headerRead ed m ≡ record { validity = Valid; header = headerOf f }
   unfolding headerRead headerAnswer headerOf
   read-header =
       rw (
@@ -73,7 +82,7 @@ module _ (f : List ℕ) (b : AllBytes f) (h : legacyFileRule f ≡ Valid) where
   read-bank-place : (n : ℕ) → (bankPlace m n ≡ bankPlace f n) × (offsetPlace f 0 ≤ bankPlace f n)
   read-bank-place n = bankPlace-same m f (migrated-front f) (offsetPlace f 0) (migrated-length f) (migrated-tail f) (omega arith) n
 
-  read-entries : (n : ℕ) → n < bankCount f → entriesRead m n ≡ part f (bankPlace f n + 34) (entryCount f (bankPlace f n) * 2)
+  read-entries : (n : ℕ) → n < bankCount f → entriesRead ed m n ≡ part f (bankPlace f n + 34) (entryCount f (bankPlace f n) * 2)
   unfolding entriesRead entriesAnswer
   read-entries n l =
       let e = read-bank-place n in
@@ -86,7 +95,7 @@ module _ (f : List ℕ) (b : AllBytes f) (h : legacyFileRule f ≡ Valid) where
         migrated-tail f (q + 34) (omega (arith, e .1)),
       )
 
-  same : ReadsTheSame f m
+  same : ReadsTheSame ed f m
   unfolding contactRead contactAnswer channelRead channelAnswer bankRead bankAnswer entryRead entryAnswer
   same =
       record {
@@ -103,7 +112,7 @@ module _ (f : List ℕ) (b : AllBytes f) (h : legacyFileRule f ≡ Valid) where
       }
 
 pub fields-stay : FieldsStay
-fields-stay f b h = same f b h
+fields-stay ed f b h = same ed f b h
 
 -- ---- every other byte and the length stay
 
@@ -171,11 +180,11 @@ pub no-two-the-same : NoTwoTheSame
 no-two-the-same f g a b e = migrated-one f g a b e
 
 pub both-stay : BothStay
-both-stay f b n l = migrated-stays f b n l
+both-stay ed f b n l = migrated-stays f ed b n l
 
 pub others-by-seven : OthersBySeven
-others-by-seven f n p h e = refused-by-seven f n p h e
+others-by-seven ed f n p h e = refused-by-seven ed f n p h e
 
 pub demand3-migrated : Demand3Migrated
-demand3-migrated f spare history h b calls edits =
-    editor-promise (migrated f) spare history (files-agree f b ∙ h) (migrated-bytes f b) calls edits
+demand3-migrated ed f spare history h b calls edits =
+    editor-promise ed (migrated f) spare history (files-agree f ed b ∙ h) (migrated-bytes f b) calls edits

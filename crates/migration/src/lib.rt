@@ -10,6 +10,7 @@ use layout::places::contact_count;
 use layout::places::counts_of;
 use legacy::migrated_byte;
 use legacy_validation::validity_of;
+use m17::Edition;
 use validation::Validated;
 ghost use mathlib.Core.Path.{_≡_};
 ghost use Prim.Native.Nat.{_+_, _*_, _<_, _≤_};
@@ -66,10 +67,10 @@ fn migrate_channels(d: &mut [u8], start: usize, n: usize)
 }
 
 // Answers as validation by the legacy reading does. An accepted file is migrated, a refused one stays as it is.
-pub fn migrate(f: &mut [u8]) -> Validated
-    ensures { λ r. ⌜ (r ≡ legacyValidation (now (f .entry))) × (now (f .exit) ≡ migratedBy (legacyFileRule (now (f .entry))) (now (f .entry))) ⌝ }
+pub fn migrate(f: &mut [u8], edition: Edition) -> Validated
+    ensures { λ r. ⌜ (r ≡ legacyValidation edition (now (f .entry))) × (now (f .exit) ≡ migratedBy (legacyFileRule edition (now (f .entry))) (now (f .entry))) ⌝ }
 {
-    if let Validity::Refused(n, p) = validity_of(f) {
+    if let Validity::Refused(n, p) = validity_of(f, edition) {
         return Validated::Refused(n, p);
     }
     let counts = counts_of(f);

@@ -11,6 +11,7 @@ use Rattle.fields.specs.Rule.{_then_, unless}
 use Rattle.fields.specs.declared.rule.Validity.{Validity}
 use Rattle.fields.specs.declared.rule.Validity.the-variants.{Valid, Refused}
 use Rattle.fields.proofs.Laws.{then-valid, unless-valid}
+use Rattle.m17.specs.declared.Edition.{Edition}
 use Rattle.file_rule.specs.File.{fileRule}
 use Rattle.journal.specs.Entry.{Entries, whole, broken, entriesOf}
 use Rattle.journal.specs.History.{numberOfEntries}
@@ -41,19 +42,19 @@ whole-bad s e f = rw (broken-by (entriesOf s) (sym e ∙ f))
 
 -- ---- all three
 
-pub preconditions-room : (d : List ℕ) (len : ℕ) (h : List ℕ) (used : ℕ) → length d < len → Refused 30 0 ≡ buffersRule editing (stateOf d len h used)
+pub preconditions-room : (ed : Edition) (d : List ℕ) (len : ℕ) (h : List ℕ) (used : ℕ) → length d < len → Refused 30 0 ≡ buffersRule (editing ed) (stateOf d len h used)
 unfolding buffersRule unless _then_
-preconditions-room d len h used g = rw (lt-leb len (length d) g)
+preconditions-room ed d len h used g = rw (lt-leb len (length d) g)
 
-pub preconditions-history : (d : List ℕ) (len : ℕ) (h : List ℕ) (used : ℕ) → len ≤ length d → length h < used
-    → Refused 30 0 ≡ buffersRule editing (stateOf d len h used)
+pub preconditions-history : (ed : Edition) (d : List ℕ) (len : ℕ) (h : List ℕ) (used : ℕ) → len ≤ length d → length h < used
+    → Refused 30 0 ≡ buffersRule (editing ed) (stateOf d len h used)
 unfolding buffersRule unless _then_
-preconditions-history d len h used f g = rw (le-leb len (length d) f, lt-leb used (length h) g)
+preconditions-history ed d len h used f g = rw (le-leb len (length d) f, lt-leb used (length h) g)
 
-pub preconditions-both : (d : List ℕ) (len : ℕ) (h : List ℕ) (used : ℕ) (v w r : Validity) → len ≤ length d → used ≤ length h → v ≡ fileRule (take len d)
-    → w ≡ wholeRule (entriesOf (take used h)) → r ≡ v then w → r ≡ buffersRule editing (stateOf d len h used)
+pub preconditions-both : (ed : Edition) (d : List ℕ) (len : ℕ) (h : List ℕ) (used : ℕ) (v w r : Validity) → len ≤ length d → used ≤ length h → v ≡ fileRule ed (take len d)
+    → w ≡ wholeRule (entriesOf (take used h)) → r ≡ v then w → r ≡ buffersRule (editing ed) (stateOf d len h used)
 unfolding buffersRule unless _then_ fileOf historyOf
-preconditions-both d len h used v w r f g e i j = rw (le-leb len (length d) f, le-leb used (length h) g, ← e, ← i) j
+preconditions-both ed d len h used v w r f g e i j = rw (le-leb len (length d) f, le-leb used (length h) g, ← e, ← i) j
 
 pub and-both : (a b : Bool) → a && b ≡ true → (a ≡ true) × (b ≡ true)
 and-both true true e = (refl, refl)
@@ -61,10 +62,10 @@ and-both true false e = absurd (true≢false (sym e))
 and-both false b e = absurd (true≢false (sym e))
 
 -- buffers that meet the preconditions
-pub preconditions-inside : (d : List ℕ) (len : ℕ) (h : List ℕ) (used : ℕ) → buffersRule editing (stateOf d len h used) ≡ Valid
+pub preconditions-inside : (ed : Edition) (d : List ℕ) (len : ℕ) (h : List ℕ) (used : ℕ) → buffersRule (editing ed) (stateOf d len h used) ≡ Valid
     → (len ≤ length d) × (used ≤ length h)
 unfolding buffersRule
-preconditions-inside d len h used e =
+preconditions-inside ed d len h used e =
     let a = and-both (leb len (length d)) (leb used (length h)) (unless-valid _ 30 0 (then-valid _ _ e .0)) in
     (leb-true len (length d) (a .0), leb-true used (length h) (a .1))
 
@@ -73,9 +74,9 @@ unfolding numberOfEntries wholeRule
 whole-held (whole es) e b = let z : _≡_ {A = ℕ} 0 1 = cc in absurd (omega arith)
 whole-held broken e b = let z : _≡_ {A = ℕ} 0 1 = cc in absurd (omega arith)
 
-preconditions-whole : (m : State) → buffersRule editing m ≡ Valid → wholeRule (historyOf m) ≡ Valid
+preconditions-whole : (ed : Edition) (m : State) → buffersRule (editing ed) m ≡ Valid → wholeRule (historyOf m) ≡ Valid
 unfolding buffersRule
-preconditions-whole m e = then-valid _ _ (then-valid _ _ e .1) .1
+preconditions-whole ed m e = then-valid _ _ (then-valid _ _ e .1) .1
 
-pub preconditions-entries : (m : State) → buffersRule editing m ≡ Valid → numberOfEntries (historyOf m) ≡ read.Broken → ⊥
-preconditions-entries m e = whole-held (historyOf m) (preconditions-whole m e)
+pub preconditions-entries : (ed : Edition) (m : State) → buffersRule (editing ed) m ≡ Valid → numberOfEntries (historyOf m) ≡ read.Broken → ⊥
+preconditions-entries ed m e = whole-held (historyOf m) (preconditions-whole ed m e)

@@ -5,6 +5,7 @@ use format::refusals::BAD_HISTORY;
 use format::refusals::BAD_LENGTH;
 use journal::scan::HistoryRead;
 use journal::scan::history_entries;
+use m17::Edition;
 use validation::validity_of;
 ghost use mathlib.Core.Path.{_≡_};
 ghost use Rattle.journal.specs.Entry.{entriesOf};
@@ -21,8 +22,8 @@ fn whole_entries(h: &[u8]) -> Validity
     }
 }
 
-pub fn check(room: &[u8], len: usize, history: &[u8], used: usize) -> Validity
-    ensures { λ r. ⌜ r ≡ buffersRule editing (stateOf (now (room .entry)) len (now (history .entry)) used) ⌝ }
+pub fn check(room: &[u8], len: usize, history: &[u8], used: usize, edition: Edition) -> Validity
+    ensures { λ r. ⌜ r ≡ buffersRule (editing edition) (stateOf (now (room .entry)) len (now (history .entry)) used) ⌝ }
 {
     if room.len() < len {
         return Validity::Refused(BAD_LENGTH, 0);
@@ -30,5 +31,8 @@ pub fn check(room: &[u8], len: usize, history: &[u8], used: usize) -> Validity
     if history.len() < used {
         return Validity::Refused(BAD_LENGTH, 0);
     }
-    first(validity_of(&room[..len]), whole_entries(&history[..used]))
+    first(
+        validity_of(&room[..len], edition),
+        whole_entries(&history[..used]),
+    )
 }

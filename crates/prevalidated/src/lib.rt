@@ -21,23 +21,24 @@ use layout::places::offset_place;
 use layout::places::offset_target;
 use layout_validation::banks::bank_head;
 use layout_validation::banks::offset_at;
+use m17::Edition;
 ghost use mathlib.Core.Path.{_≡_};
 ghost use Rattle.codeplug.specs.Prevalidated.{contactPrevalidatedRule, contactPrevalidated, channelPrevalidatedRule, channelPrevalidated, bankPrevalidatedRule, bankPrevalidated, entriesPrevalidated};
 ghost use Rattle.codeplug.specs.There.{ContactThere, ChannelThere, BankThere};
 
-pub fn contact_validity(f: &[u8], n: usize) -> Validity
-    ensures { λ r. ⌜ (r ≡ contactPrevalidatedRule (now (f .entry)) n) × (r ≡ Validity.Valid → ContactThere (now (f .entry)) n) ⌝ }
+pub fn contact_validity(f: &[u8], n: usize, edition: Edition) -> Validity
+    ensures { λ r. ⌜ (r ≡ contactPrevalidatedRule edition (now (f .entry)) n) × (r ≡ Validity.Valid → ContactThere (now (f .entry)) n) ⌝ }
 {
     if contact_count(f) <= n {
         return Validity::Refused(NO_PLACE, 0);
     }
-    contact_at(f, contact_place(n))
+    contact_at(f, contact_place(n), edition)
 }
 
-pub fn contact(f: &[u8], n: usize) -> ContactRead
-    ensures { λ r. ⌜ r ≡ contactPrevalidated (now (f .entry)) n ⌝ }
+pub fn contact(f: &[u8], n: usize, edition: Edition) -> ContactRead
+    ensures { λ r. ⌜ r ≡ contactPrevalidated edition (now (f .entry)) n ⌝ }
 {
-    let validity = contact_validity(f, n);
+    let validity = contact_validity(f, n, edition);
     contact_reader::answer(validity, contact_bytes(f, n, validity))
 }
 

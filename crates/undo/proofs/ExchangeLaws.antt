@@ -11,6 +11,7 @@ use Rattle.fields.specs.Rule.{isValid}
 use Rattle.fields.specs.declared.rule.Validity.{Validity}
 use Rattle.fields.specs.declared.rule.Validity.the-variants.{Valid, Refused}
 use Rattle.fields.proofs.Laws.{length-part, length-over, length-zeros, part-over, drop-over}
+use Rattle.m17.specs.declared.Edition.{Edition}
 use Rattle.file_rule.specs.File.{fileRule}
 use Rattle.buffers.specs.Cut.{cut}
 use Rattle.buffers.specs.Splice.{spliced}
@@ -147,13 +148,13 @@ content-is : (d x o : List ℕ) (len p k n : ℕ) → x ≡ spliced d len p k o 
 unfolding cut
 content-is d x o len p k n e f a h g = rw (e, f) (spliced-of d len p k o a h g (take len d) refl)
 
-valid-is : (v : Validity) (s t : List ℕ) → v ≡ fileRule s → s ≡ t → v ≡ Valid → true ≡ isValid (fileRule t)
+valid-is : (ed : Edition) (v : Validity) (s t : List ℕ) → v ≡ fileRule ed s → s ≡ t → v ≡ Valid → true ≡ isValid (fileRule ed t)
 unfolding isValid
-valid-is v s t e f g = let h : fileRule t ≡ Valid = ap fileRule (sym f) ∙ sym e ∙ g in rw h
+valid-is ed v s t e f g = let h : fileRule ed t ≡ Valid = ap (fileRule ed) (sym f) ∙ sym e ∙ g in rw h
 
-bad-is : (v : Validity) (s t : List ℕ) (a b : ℕ) → v ≡ fileRule s → s ≡ t → v ≡ Refused a b → false ≡ isValid (fileRule t)
+bad-is : (ed : Edition) (v : Validity) (s t : List ℕ) (a b : ℕ) → v ≡ fileRule ed s → s ≡ t → v ≡ Refused a b → false ≡ isValid (fileRule ed t)
 unfolding isValid
-bad-is v s t a b e f g = let h : fileRule t ≡ Refused a b = ap fileRule (sym f) ∙ sym e ∙ g in rw h
+bad-is ed v s t a b e f g = let h : fileRule ed t ≡ Refused a b = ap (fileRule ed) (sym f) ∙ sym e ∙ g in rw h
 
 -- ---- the exchange, validated: x is the room after the first step, y after the second, z the history after the swap
 
@@ -162,30 +163,30 @@ module _ (d h x y z : List ℕ) (len p k body m : ℕ) (v : Validity) (inside : 
   taken-length : length (part h body m) ≡ m
   taken-length = length-part h body m stored
 
-  tried-valid : (w s : List ℕ) (i : ℕ) (r : List ℕ) → w ≡ spliced d len p k (part h body m) → v ≡ fileRule s
+  tried-valid : (ed : Edition) (w s : List ℕ) (i : ℕ) (r : List ℕ) → w ≡ spliced d len p k (part h body m) → v ≡ fileRule ed s
       → s ≡ cut (take len d) p k (part h body m) → v ≡ Valid → z ≡ over h body (part r i m) → i + m ≤ length r
-      → Tried d len p k h body m true w z
-  tried-valid w s i r e f c g j l =
+      → Tried ed d len p k h body m true w z
+  tried-valid ed w s i r e f c g j l =
       record {
-        validated = valid-is v s (cut (take len d) p k (part h body m)) f c g;
+        validated = valid-is ed v s (cut (take len d) p k (part h body m)) f c g;
         room-is = e;
         behind-is = swap-behind z h r i body m j l stored;
         kept = λ n. absurd (true≢false n);
       }
 
-  tried-bad : (w s u : List ℕ) (a b : ℕ) → w ≡ d → u ≡ h → v ≡ fileRule s → s ≡ cut (take len d) p k (part h body m) → v ≡ Refused a b
-      → Tried d len p k h body m false w u
-  tried-bad w s u a b e f g c j =
+  tried-bad : (ed : Edition) (w s u : List ℕ) (a b : ℕ) → w ≡ d → u ≡ h → v ≡ fileRule ed s → s ≡ cut (take len d) p k (part h body m) → v ≡ Refused a b
+      → Tried ed d len p k h body m false w u
+  tried-bad ed w s u a b e f g c j =
       record {
-        validated = bad-is v s (cut (take len d) p k (part h body m)) a b g c j;
+        validated = bad-is ed v s (cut (take len d) p k (part h body m)) a b g c j;
         room-is = e;
         behind-is = rw f;
         kept = λ n. f;
       }
 
   -- at least as many bytes come as leave: rotated, then swapped
-  module _ (more : k ≤ m) (e : x ≡ rotated d (p + k) (len - (p + k) + (m - k)) (len - (p + k))) (f : (y ≡ over x p (part h body m))
-      × (z ≡ over h body (part x p m))) (j : v ≡ fileRule (take (len + (m - k)) y)) where
+  module _ (ed : Edition) (more : k ≤ m) (e : x ≡ rotated d (p + k) (len - (p + k) + (m - k)) (len - (p + k))) (f : (y ≡ over x p (part h body m))
+      × (z ≡ over h body (part x p m))) (j : v ≡ fileRule ed (take (len + (m - k)) y)) where
     longer-room : y ≡ spliced d len p k (part h body m)
     longer-room =
         let l = taken-length in
@@ -200,14 +201,14 @@ module _ (d h x y z : List ℕ) (len p k body m : ℕ) (v : Validity) (inside : 
         let l = taken-length in
         content-is d y (part h body m) len p k (len + (m - k)) longer-room (omega arith) inside held (omega arith)
 
-    pub longer-valid : v ≡ Valid → Tried d len p k h body m true y z
+    pub longer-valid : v ≡ Valid → Tried ed d len p k h body m true y z
     longer-valid g =
         let l = longer-size in
-        tried-valid y (take (len + (m - k)) y) p x longer-room j longer-content g (f .1) (omega arith)
+        tried-valid ed y (take (len + (m - k)) y) p x longer-room j longer-content g (f .1) (omega arith)
 
     -- both taken back: y₁ and z₁ are the buffers after the second swap, w the room after the second rotation
     pub longer-bad : (y₁ z₁ w : List ℕ) (a b : ℕ) → v ≡ Refused a b → (y₁ ≡ over y p (part z body m)) × (z₁ ≡ over z body (part y p m))
-        → w ≡ rotated y₁ (p + k) (len - (p + k) + (m - k)) (m - k) → Tried d len p k h body m false w z₁
+        → w ≡ rotated y₁ (p + k) (len - (p + k) + (m - k)) (m - k) → Tried ed d len p k h body m false w z₁
     longer-bad y₁ z₁ w a b g q t =
         let l = longer-size in
         let y-is : y₁ ≡ x = q .0 ∙ swap-back x y h z p body m (f .0) (f .1) (omega arith) stored in
@@ -216,11 +217,11 @@ module _ (d h x y z : List ℕ) (len p k body m : ℕ) (v : Validity) (inside : 
         t
         ∙ rotate-back d y₁ (p + k) (len - (p + k) + (m - k)) (len - (p + k)) (m - k) (y-is ∙ e) (omega arith) (omega arith)
         in
-        tried-bad w (take (len + (m - k)) y) z₁ a b w-is z-is j longer-content g
+        tried-bad ed w (take (len + (m - k)) y) z₁ a b w-is z-is j longer-content g
 
   -- fewer bytes come than leave: swapped, then rotated
-  module _ (less : m < k) (e : (x ≡ over d p (part h body m)) × (z ≡ over h body (part d p m)))
-      (f : y ≡ rotated x (p + m) (k - m + (len - (p + k))) (k - m)) (j : v ≡ fileRule (take (len - (k - m)) y)) where
+  module _ (ed : Edition) (less : m < k) (e : (x ≡ over d p (part h body m)) × (z ≡ over h body (part d p m)))
+      (f : y ≡ rotated x (p + m) (k - m + (len - (p + k))) (k - m)) (j : v ≡ fileRule ed (take (len - (k - m)) y)) where
     shorter-room : over y (len - (k - m)) (zeros (k - m)) ≡ spliced d len p k (part h body m)
     shorter-room =
         let l = taken-length in
@@ -243,15 +244,15 @@ module _ (d h x y z : List ℕ) (len p k body m : ℕ) (v : Validity) (inside : 
         ∙ content-is d (over y (len - (k - m)) (zeros (k - m))) (part h body m) len p k (len - (k - m)) shorter-room (omega arith) inside held
         (omega arith)
 
-    pub shorter-valid : (w : List ℕ) → v ≡ Valid → w ≡ over y (len - (k - m)) (zeros (k - m)) → Tried d len p k h body m true w z
+    pub shorter-valid : (w : List ℕ) → v ≡ Valid → w ≡ over y (len - (k - m)) (zeros (k - m)) → Tried ed d len p k h body m true w z
     shorter-valid w g t =
-        tried-valid w (take (len - (k - m)) y) p d (t ∙ shorter-room) j shorter-content g (e .1) (omega arith)
+        tried-valid ed w (take (len - (k - m)) y) p d (t ∙ shorter-room) j shorter-content g (e .1) (omega arith)
 
     pub shorter-bad : (y₁ z₁ w : List ℕ) (a b : ℕ) → v ≡ Refused a b → y₁ ≡ rotated y (p + m) (k - m + (len - (p + k))) (len - (p + k))
-        → (w ≡ over y₁ p (part z body m)) × (z₁ ≡ over z body (part y₁ p m)) → Tried d len p k h body m false w z₁
+        → (w ≡ over y₁ p (part z body m)) × (z₁ ≡ over z body (part y₁ p m)) → Tried ed d len p k h body m false w z₁
     shorter-bad y₁ z₁ w a b g t q =
         let l = shorter-size in
         let y-is : y₁ ≡ x = t ∙ rotate-back x y (p + m) (k - m + (len - (p + k))) (k - m) (len - (p + k)) f (omega arith) (omega arith) in
         let w-is : w ≡ d = q .0 ∙ rw y-is (swap-back d x h z p body m (e .0) (e .1) (omega arith) stored) in
         let z-is : z₁ ≡ h = q .1 ∙ rw y-is (swap-back h z d x body p m (e .1) (e .0) stored (omega arith)) in
-        tried-bad w (take (len - (k - m)) y) z₁ a b w-is z-is j shorter-content g
+        tried-bad ed w (take (len - (k - m)) y) z₁ a b w-is z-is j shorter-content g

@@ -14,6 +14,7 @@ use Rattle.fields.specs.Rule.{_then_, unless, isValid}
 use Rattle.fields.specs.declared.rule.Validity.{Validity}
 use Rattle.fields.specs.declared.rule.Validity.the-variants.{Valid, Refused}
 use Rattle.fields.proofs.Laws.{AllBytes, bytes-take, bytes-drop, length-part, length-zeros, part-part, over-over, over-zero}
+use Rattle.m17.specs.declared.Edition.{Edition}
 use Rattle.file_rule.specs.File.{fileRule}
 use Rattle.buffers.specs.Cut.{cut}
 use Rattle.buffers.specs.Splice.{spliced}
@@ -87,21 +88,21 @@ revert-cut : (h : List ℕ) (top : EntryHead) (f : List ℕ)
 unfolding revert headed cut
 revert-cut h top f = refl
 
-fits-by : (h : List ℕ) (top : EntryHead) (d : List ℕ) (len used : ℕ)
-    → entryFits editing (headed h top) (stateOf d len h used)
+fits-by : (ed : Edition) (h : List ℕ) (top : EntryHead) (d : List ℕ) (len used : ℕ)
+    → entryFits (editing ed) (headed h top) (stateOf d len h used)
     ≡ leb (top .place + top .put) len
-    && (leb (length (revert (headed h top) (take len d))) (length d) && isValid (fileRule (revert (headed h top) (take len d))))
+    && (leb (length (revert (headed h top) (take len d))) (length d) && isValid (fileRule ed (revert (headed h top) (take len d))))
 unfolding entryFits headed fileOf
-fits-by h top d len used = refl
+fits-by ed h top d len used = refl
 
 module _ (d : List ℕ) (len : ℕ) (h : List ℕ) (used : ℕ) (top : EntryHead) (entries : ℕ) where
-  pub not-fitting : entryFits editing (headed h top) (stateOf d len h used) ≡ false
-      → outcomeOf (answer.Refused 39 0) d h ≡ undone d len h used top entries
+  pub not-fitting : (ed : Edition) → entryFits (editing ed) (headed h top) (stateOf d len h used) ≡ false
+      → outcomeOf (answer.Refused 39 0) d h ≡ undone ed d len h used top entries
   unfolding undone refused
-  not-fitting e = rw e
+  not-fitting ed e = rw e
 
-  pub past-codeplug : len < top .place + top .put → outcomeOf (answer.Refused 39 0) d h ≡ undone d len h used top entries
-  past-codeplug g = not-fitting (rw (fits-by h top d len used, lt-leb (top .place + top .put) len g))
+  pub past-codeplug : (ed : Edition) → len < top .place + top .put → outcomeOf (answer.Refused 39 0) d h ≡ undone ed d len h used top entries
+  past-codeplug ed g = not-fitting ed (rw (fits-by ed h top d len used, lt-leb (top .place + top .put) len g))
 
   module _ (inside : top .place + top .put ≤ len) (held : len ≤ length d) (stored : top .body + top .taken ≤ length h) where
     result-length : length (revert (headed h top) (take len d)) ≡ len - top .put + top .taken
@@ -111,13 +112,13 @@ module _ (d : List ℕ) (len : ℕ) (h : List ℕ) (used : ℕ) (top : EntryHead
         ∙ length-cut d len (top .place) (top .put) (part h (top .body) (top .taken)) inside held
         ∙ rw l
 
-    pub past-room : length d < len - top .put + top .taken → outcomeOf (answer.Refused 39 0) d h ≡ undone d len h used top entries
-    past-room g =
+    pub past-room : (ed : Edition) → length d < len - top .put + top .taken → outcomeOf (answer.Refused 39 0) d h ≡ undone ed d len h used top entries
+    past-room ed g =
         let l = result-length in
         let n : length d < length (revert (headed h top) (take len d)) = omega arith in
-        not-fitting (
+        not-fitting ed (
         rw (
-          fits-by h top d len used,
+          fits-by ed h top d len used,
           le-leb (top .place + top .put) len inside,
           lt-leb (length (revert (headed h top) (take len d))) (length d) n,
         )
@@ -125,14 +126,14 @@ module _ (d : List ℕ) (len : ℕ) (h : List ℕ) (used : ℕ) (top : EntryHead
 
     module _ (fits : len + top .taken ≤ length d + top .put) where
       -- what is left to say is whether reading the result is valid
-      fits-validated : (valid : Bool)
-          → valid ≡ isValid (fileRule (cut (take len d) (top .place) (top .put) (part h (top .body) (top .taken))))
-          → entryFits editing (headed h top) (stateOf d len h used) ≡ valid
-      fits-validated valid e =
+      fits-validated : (ed : Edition) (valid : Bool)
+          → valid ≡ isValid (fileRule ed (cut (take len d) (top .place) (top .put) (part h (top .body) (top .taken))))
+          → entryFits (editing ed) (headed h top) (stateOf d len h used) ≡ valid
+      fits-validated ed valid e =
           let l = result-length in
           let n : length (revert (headed h top) (take len d)) ≤ length d = omega arith in
           rw (
-            fits-by h top d len used,
+            fits-by ed h top d len used,
             le-leb (top .place + top .put) len inside,
             le-leb (length (revert (headed h top) (take len d))) (length d) n,
             revert-cut h top (take len d),
@@ -140,21 +141,21 @@ module _ (d : List ℕ) (len : ℕ) (h : List ℕ) (used : ℕ) (top : EntryHead
           (sym e)
 
       -- the result is refused: both buffers are as they were
-      pub refused-back : (d₁ h₁ : List ℕ) (valid : Bool) → Tried d len (top .place) (top .put) h (top .body) (top .taken) valid d₁ h₁ → valid ≡ false
-          → outcomeOf (answer.Refused 39 0) d₁ h₁ ≡ undone d len h used top entries
-      refused-back d₁ h₁ valid t g =
+      pub refused-back : (ed : Edition) (d₁ h₁ : List ℕ) (valid : Bool) → Tried ed d len (top .place) (top .put) h (top .body) (top .taken) valid d₁ h₁ → valid ≡ false
+          → outcomeOf (answer.Refused 39 0) d₁ h₁ ≡ undone ed d len h used top entries
+      refused-back ed d₁ h₁ valid t g =
           let e : d₁ ≡ d = t .room-is ∙ rw g in
           let f : h₁ ≡ h = t .kept g in
-          rw (e, f) (not-fitting (fits-validated valid (t .validated) ∙ g))
+          rw (e, f) (not-fitting ed (fits-validated ed valid (t .validated) ∙ g))
 
       -- the result is valid: the entry is dropped, h₂ is the history after that
-      pub taken-back : (d₁ h₁ h₂ : List ℕ) (valid : Bool) → Tried d len (top .place) (top .put) h (top .body) (top .taken) valid d₁ h₁
+      pub taken-back : (ed : Edition) (d₁ h₁ h₂ : List ℕ) (valid : Bool) → Tried ed d len (top .place) (top .put) h (top .body) (top .taken) valid d₁ h₁
           → valid ≡ true → top .next ≡ top .body + top .taken → top .body + top .taken ≤ used → used ≤ length h
           → h₂ ≡ holding h₁ used (part h₁ (top .body + top .taken) (used - (top .body + top .taken)))
           → outcomeOf (answer.Done (len - top .put + top .taken) (used - (top .body + top .taken)) (entries - 1)) d₁ h₂
-          ≡ undone d len h used top entries
+          ≡ undone ed d len h used top entries
       unfolding undone
-      taken-back d₁ h₁ h₂ valid t g n a b i =
+      taken-back ed d₁ h₁ h₂ valid t g n a b i =
           let o = part h (top .body) (top .taken) in
           let l : length o ≡ top .taken = length-part h (top .body) (top .taken) stored in
           let room-is : d₁ ≡ holding d len (revert (headed h top) (take len d)) =
@@ -164,7 +165,7 @@ module _ (d : List ℕ) (len : ℕ) (h : List ℕ) (used : ℕ) (top : EntryHead
           let history-is : h₂ ≡ holding h used (part h (top .body + top .taken) (used - (top .body + top .taken))) =
           i ∙ dropped-behind h h₁ used (top .body + top .taken) (t .behind-is) a b
           in
-          rw (fits-validated valid (t .validated), g, room-is, history-is, n)
+          rw (fits-validated ed valid (t .validated), g, room-is, history-is, n)
 
 -- ---- the first entry of a history
 
@@ -213,48 +214,48 @@ top-is h used top r g =
 
 -- ---- the call
 
-pub undo-refused : (d : List ℕ) (len : ℕ) (h : List ℕ) (used n p : ℕ) {v : Validity} → v ≡ buffersRule editing (stateOf d len h used) → v ≡ Refused n p
-    → outcomeOf (answer.Refused n p) d h ≡ undoStep editing (stateOf d len h used)
+pub undo-refused : (ed : Edition) (d : List ℕ) (len : ℕ) (h : List ℕ) (used n p : ℕ) {v : Validity} → v ≡ buffersRule (editing ed) (stateOf d len h used) → v ≡ Refused n p
+    → outcomeOf (answer.Refused n p) d h ≡ undoStep (editing ed) (stateOf d len h used)
 unfolding undoStep undoRule undoOutcome refused _then_
-undo-refused d len h used n p e f = rw (sym e ∙ f)
+undo-refused ed d len h used n p e f = rw (sym e ∙ f)
 
-module _ (d : List ℕ) (len : ℕ) (h : List ℕ) (used : ℕ) (fine : buffersRule editing (stateOf d len h used) ≡ Valid) where
+module _ (ed : Edition) (d : List ℕ) (len : ℕ) (h : List ℕ) (used : ℕ) (fine : buffersRule (editing ed) (stateOf d len h used) ≡ Valid) where
   pub undo-broken : {r : HistoryRead} → r ≡ numberOfEntries (entriesOf (take used h)) → r ≡ read.Broken
-      → outcomeOf (answer.Refused 31 0) d h ≡ undoStep editing (stateOf d len h used)
+      → outcomeOf (answer.Refused 31 0) d h ≡ undoStep (editing ed) (stateOf d len h used)
   unfolding historyOf
-  undo-broken e f = absurd (preconditions-entries (stateOf d len h used) fine (sym e ∙ f))
+  undo-broken e f = absurd (preconditions-entries ed (stateOf d len h used) fine (sym e ∙ f))
 
   pub undo-none : (n : ℕ) → Held (take used h) n → frontOf (take used h) ≡ none
-      → outcomeOf (answer.Refused 38 0) d h ≡ undoStep editing (stateOf d len h used)
+      → outcomeOf (answer.Refused 38 0) d h ≡ undoStep (editing ed) (stateOf d len h used)
   unfolding undoStep undoRule topRule undoOutcome historyOf entryList refused _then_
   undo-none n e f = rw (fine, e .held-is, none-held (take used h) (e .held) (e .held-is) f)
 
   told-by : (e : Entry) (rest : List Entry) (fits : Bool)
-      → undoOutcome editing (stateOf d len h used) (unless fits 39 0) (e ∷ rest)
+      → undoOutcome (editing ed) (stateOf d len h used) (unless fits 39 0) (e ∷ rest)
       ≡ cond fits (done (revert e (take len d)) rest (stateOf d len h used)) (refused 39 0 (stateOf d len h used))
   unfolding undoOutcome revertTop withoutTop unless fileOf
   told-by e rest true = refl
   told-by e rest false = refl
 
   undo-first : (e : Entry) (rest : List Entry) → entriesOf (take used h) ≡ whole (e ∷ rest)
-      → undoStep editing (stateOf d len h used)
-      ≡ cond (entryFits editing e (stateOf d len h used)) (done (revert e (take len d)) rest (stateOf d len h used)) (refused 39 0 (stateOf d len h used))
+      → undoStep (editing ed) (stateOf d len h used)
+      ≡ cond (entryFits (editing ed) e (stateOf d len h used)) (done (revert e (take len d)) rest (stateOf d len h used)) (refused 39 0 (stateOf d len h used))
   unfolding undoStep undoRule topRule historyOf entryList _then_
-  undo-first e rest f = rw (fine, f) (told-by e rest (entryFits editing e (stateOf d len h used)))
+  undo-first e rest f = rw (fine, f) (told-by e rest (entryFits (editing ed) e (stateOf d len h used)))
 
   -- the two ways to tell it agree, entry by entry
   undone-is : (top : EntryHead) (n : ℕ) (rest : List Entry) (v : Bool) → top .next ≡ top .body + top .taken → top .next ≤ used
       → historyBytes rest ≡ part h (top .next) (used - top .next) → length rest ≡ n - 1
-      → entryFits editing (headed h top) (stateOf d len h used) ≡ v
-      → undone d len h used top n
-      ≡ cond (entryFits editing (headed h top) (stateOf d len h used)) (done (revert (headed h top) (take len d)) rest (stateOf d len h used))
+      → entryFits (editing ed) (headed h top) (stateOf d len h used) ≡ v
+      → undone ed d len h used top n
+      ≡ cond (entryFits (editing ed) (headed h top) (stateOf d len h used)) (done (revert (headed h top) (take len d)) rest (stateOf d len h used))
       (refused 39 0 (stateOf d len h used))
   unfolding undone done
   undone-is top n rest false a b c m e = rw e
   undone-is top n rest true a b c m e =
-      let i = preconditions-inside d len h used fine in
+      let i = preconditions-inside ed d len h used fine in
       let q : top .place + top .put ≤ len =
-      leb-true (top .place + top .put) len (and-both (leb (top .place + top .put) len) _ (sym (fits-by h top d len used) ∙ e) .0)
+      leb-true (top .place + top .put) len (and-both (leb (top .place + top .put) len) _ (sym (fits-by ed h top d len used) ∙ e) .0)
       in
       let l : length (revert (headed h top) (take len d)) ≡ len - top .put + top .taken =
       result-length d len h used top n q (i .0) (omega arith)
@@ -263,9 +264,9 @@ module _ (d : List ℕ) (len : ℕ) (h : List ℕ) (used : ℕ) (fine : buffersR
       rw (e, l, c, k, m)
 
   pub undo-first-entry : (top : EntryHead) (n : ℕ) → Held (take used h) n → HeadRead (take used h) 0 top → AllBytes h
-      → undone d len h used top n ≡ undoStep editing (stateOf d len h used)
+      → undone ed d len h used top n ≡ undoStep (editing ed) (stateOf d len h used)
   undo-first-entry top n w r b =
-      let i = preconditions-inside d len h used fine in
+      let i = preconditions-inside ed d len h used fine in
       let s = take used h in
       let l : length s ≡ used = length-take-le used h (i .1) in
       let inside = r .inside in
@@ -277,14 +278,14 @@ module _ (d : List ℕ) (len : ℕ) (h : List ℕ) (used : ℕ) (fine : buffersR
       in
       let m : length (f .rest) ≡ n - 1 = omega (arith, ap length (f .is), w .many) in
       let g : entriesOf s ≡ whole (r .entry ∷ f .rest) = w .held-is ∙ ap (λ (es : List Entry). whole es) (f .is) in
-      undone-is top n (f .rest) (entryFits editing (headed h top) (stateOf d len h used)) (r .next-is) (omega arith) c m refl
+      undone-is top n (f .rest) (entryFits (editing ed) (headed h top) (stateOf d len h used)) (r .next-is) (omega arith) c m refl
       ∙ rw (top-is h used top r (i .1)) (sym (undo-first (r .entry) (f .rest) g))
 
   -- what the entry asks of the call that takes it back
   pub undo-asks : (top : EntryHead) (n : ℕ) → Held (take used h) n → HeadRead (take used h) 0 top
       → ((len ≤ length d) × (used ≤ length h)) × (((top .next ≡ top .body + top .taken) × (top .next ≤ used)) × (1 ≤ n))
   undo-asks top n w r =
-      let i = preconditions-inside d len h used fine in
+      let i = preconditions-inside ed d len h used fine in
       let l : length (take used h) ≡ used = length-take-le used h (i .1) in
       let inside = r .inside in
       let f = first-held (take used h) (r .entry) (drop (top .next) (take used h)) (w .held) (w .held-is) (r .front-is) in

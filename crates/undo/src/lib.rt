@@ -14,6 +14,7 @@ use journal::scan::EntryRead;
 use journal::scan::HistoryRead;
 use journal::scan::history_entries;
 use journal::scan::history_entry_at;
+use m17::Edition;
 use preconditions::check;
 ghost use mathlib.Core.Path.{_≡_};
 ghost use Prim.Native.Nat.{_+_, _-_, _≤_};
@@ -42,9 +43,10 @@ fn take_back(
     used: usize,
     top: EntryHead,
     entries: usize,
+    edition: Edition,
 ) -> Answer
     requires { ⌜ ((len ≤ length (now room)) × (used ≤ length (now history))) × (((top .next ≡ top .body + top .taken) × (top .next ≤ used)) × (1 ≤ entries)) ⌝ }
-    ensures { λ r. ⌜ outcomeOf r (now (room .exit)) (now (history .exit)) ≡ undone (now (room .entry)) len (now (history .entry)) used top entries ⌝ }
+    ensures { λ r. ⌜ outcomeOf r (now (room .exit)) (now (history .exit)) ≡ undone edition (now (room .entry)) len (now (history .entry)) used top entries ⌝ }
 {
     let p = top.place;
     let k = top.put;
@@ -59,16 +61,22 @@ fn take_back(
     if room.len() - (len - k) < m {
         return Answer::Refused(HISTORY_ENTRY, 0);
     }
-    if !revert(room, len, p, k, history, body, m) {
+    if !revert(room, len, p, k, history, body, m, edition) {
         return Answer::Refused(HISTORY_ENTRY, 0);
     }
     drop_front(history, used, body + m);
     Answer::Done(len - k + m, used - (body + m), entries - 1)
 }
 
-fn undo_top(room: &mut [u8], len: usize, history: &mut [u8], used: usize) -> Answer
-    requires { ⌜ buffersRule editing (stateOf (now room) len (now history) used) ≡ Valid ⌝ }
-    ensures { λ r. ⌜ outcomeOf r (now (room .exit)) (now (history .exit)) ≡ undoStep editing (stateOf (now (room .entry)) len (now (history .entry)) used) ⌝ }
+fn undo_top(
+    room: &mut [u8],
+    len: usize,
+    history: &mut [u8],
+    used: usize,
+    edition: Edition,
+) -> Answer
+    requires { ⌜ buffersRule (editing edition) (stateOf (now room) len (now history) used) ≡ Valid ⌝ }
+    ensures { λ r. ⌜ outcomeOf r (now (room .exit)) (now (history .exit)) ≡ undoStep (editing edition) (stateOf (now (room .entry)) len (now (history .entry)) used) ⌝ }
 {
     let HistoryRead::Entries(entries) = history_entries(&history[..used]) else {
         return Answer::Refused(BAD_HISTORY, 0);
@@ -76,15 +84,21 @@ fn undo_top(room: &mut [u8], len: usize, history: &mut [u8], used: usize) -> Ans
     let EntryRead::Entry(top) = history_entry_at(&history[..used], 0) else {
         return Answer::Refused(NO_UNDO, 0);
     };
-    take_back(room, len, history, used, top, entries)
+    take_back(room, len, history, used, top, entries, edition)
 }
 
 // Takes the last edit back, in both buffers, or refuses and leaves them as lent.
-pub fn undo(room: &mut [u8], len: usize, history: &mut [u8], used: usize) -> Answer
-    ensures { λ r. ⌜ outcomeOf r (now (room .exit)) (now (history .exit)) ≡ undoStep editing (stateOf (now (room .entry)) len (now (history .entry)) used) ⌝ }
+pub fn undo(
+    room: &mut [u8],
+    len: usize,
+    history: &mut [u8],
+    used: usize,
+    edition: Edition,
+) -> Answer
+    ensures { λ r. ⌜ outcomeOf r (now (room .exit)) (now (history .exit)) ≡ undoStep (editing edition) (stateOf (now (room .entry)) len (now (history .entry)) used) ⌝ }
 {
-    if let Validity::Refused(n, p) = check(room, len, history, used) {
+    if let Validity::Refused(n, p) = check(room, len, history, used, edition) {
         return Answer::Refused(n, p);
     }
-    undo_top(room, len, history, used)
+    undo_top(room, len, history, used, edition)
 }

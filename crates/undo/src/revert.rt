@@ -2,6 +2,7 @@
 // stand meanwhile in the entry and, where they are more, behind the codeplug.
 use buffers::block::clear;
 use fields::rule::Validity;
+use m17::Edition;
 use rotation::rotate;
 use rotation::swap;
 use validation::validity_of;
@@ -18,15 +19,16 @@ fn revert_longer(
     history: &mut [u8],
     body: usize,
     m: usize,
+    edition: Edition,
 ) -> bool
     requires { ⌜ ((p + k ≤ len) × (len ≤ length (now room))) × (((len + m ≤ length (now room) + k) × (k ≤ m)) × (body + m ≤ length (now history))) ⌝ }
-    ensures { λ r. ⌜ Tried (now (room .entry)) len p k (now (history .entry)) body m r (now (room .exit)) (now (history .exit)) ⌝ }
+    ensures { λ r. ⌜ Tried edition (now (room .entry)) len p k (now (history .entry)) body m r (now (room .exit)) (now (history .exit)) ⌝ }
 {
     let behind = len - (p + k);
     let spare = m - k;
     rotate(room, p + k, behind + spare, behind);
     swap(room, p, history, body, m);
-    if let Validity::Valid = validity_of(&room[..len + spare]) {
+    if let Validity::Valid = validity_of(&room[..len + spare], edition) {
         return true;
     }
     swap(room, p, history, body, m);
@@ -43,15 +45,16 @@ fn revert_shorter(
     history: &mut [u8],
     body: usize,
     m: usize,
+    edition: Edition,
 ) -> bool
     requires { ⌜ ((p + k ≤ len) × (len ≤ length (now room))) × ((m < k) × (body + m ≤ length (now history))) ⌝ }
-    ensures { λ r. ⌜ Tried (now (room .entry)) len p k (now (history .entry)) body m r (now (room .exit)) (now (history .exit)) ⌝ }
+    ensures { λ r. ⌜ Tried edition (now (room .entry)) len p k (now (history .entry)) body m r (now (room .exit)) (now (history .exit)) ⌝ }
 {
     let behind = len - (p + k);
     let spare = k - m;
     swap(room, p, history, body, m);
     rotate(room, p + m, spare + behind, spare);
-    if let Validity::Valid = validity_of(&room[..len - spare]) {
+    if let Validity::Valid = validity_of(&room[..len - spare], edition) {
         clear(room, len - spare, spare);
         return true;
     }
@@ -69,13 +72,14 @@ pub(crate) fn revert(
     history: &mut [u8],
     body: usize,
     m: usize,
+    edition: Edition,
 ) -> bool
     requires { ⌜ ((p + k ≤ len) × (len ≤ length (now room))) × ((len + m ≤ length (now room) + k) × (body + m ≤ length (now history))) ⌝ }
-    ensures { λ r. ⌜ Tried (now (room .entry)) len p k (now (history .entry)) body m r (now (room .exit)) (now (history .exit)) ⌝ }
+    ensures { λ r. ⌜ Tried edition (now (room .entry)) len p k (now (history .entry)) body m r (now (room .exit)) (now (history .exit)) ⌝ }
 {
     if k <= m {
-        revert_longer(room, len, p, k, history, body, m)
+        revert_longer(room, len, p, k, history, body, m, edition)
     } else {
-        revert_shorter(room, len, p, k, history, body, m)
+        revert_shorter(room, len, p, k, history, body, m, edition)
     }
 }

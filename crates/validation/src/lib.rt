@@ -10,6 +10,7 @@ use layout::places::counts_of;
 use layout_validation::banks::validate_banks;
 use layout_validation::banks::validate_offsets;
 use layout_validation::header::validate_header;
+use m17::Edition;
 ghost use mathlib.Core.Path.{_≡_};
 ghost use Rattle.file_rule.specs.File.{fileRule};
 ghost use Rattle.validation.specs.Validation.{validation};
@@ -21,8 +22,8 @@ pub enum Validated {
 }
 
 // The first refusal of a file.
-pub fn validity_of(f: &[u8]) -> Validity
-    ensures { λ r. ⌜ r ≡ fileRule (now (f .entry)) ⌝ }
+pub fn validity_of(f: &[u8], edition: Edition) -> Validity
+    ensures { λ r. ⌜ r ≡ fileRule edition (now (f .entry)) ⌝ }
 {
     if FILE_MAX < f.len() {
         return Validity::Refused(TOO_LONG, 0);
@@ -31,7 +32,7 @@ pub fn validity_of(f: &[u8]) -> Validity
     if let Validity::Refused(_, _) = header {
         return header;
     }
-    let contacts = validate_contacts(f);
+    let contacts = validate_contacts(f, edition);
     if let Validity::Refused(_, _) = contacts {
         return contacts;
     }
@@ -47,10 +48,10 @@ pub fn validity_of(f: &[u8]) -> Validity
 }
 
 // Whether a file is accepted, with its three counts, or its refusal.
-pub fn validate(f: &[u8]) -> Validated
-    ensures { λ r. ⌜ r ≡ validation (now (f .entry)) ⌝ }
+pub fn validate(f: &[u8], edition: Edition) -> Validated
+    ensures { λ r. ⌜ r ≡ validation edition (now (f .entry)) ⌝ }
 {
-    match validity_of(f) {
+    match validity_of(f, edition) {
         Validity::Valid => Validated::Accepted(counts_of(f)),
         Validity::Refused(n, p) => Validated::Refused(n, p),
     }

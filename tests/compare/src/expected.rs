@@ -6,7 +6,7 @@ use obcf_second::codeplug::{Bank, Counts, Header};
 use obcf_second::edit::Answer;
 use obcf_second::record::{self, Channel, Contact, Location, CHANNEL_SIZE, NO_CONTACT};
 use obcf_second::tone::Tone;
-use obcf_second::{Reason, Refusal};
+use obcf_second::{Edition, Reason, Refusal};
 
 use crate::interface::*;
 
@@ -244,7 +244,7 @@ pub fn written(answer: Result<(), Refusal>) -> c::Refusal {
 
 /// Writes a contact that is given as numbers. The second program has no
 /// foreign modes: they are 6 at 32, after the name.
-pub fn write_contact(out: &mut [u8], name: &[u8], values: ContactValues) -> c::Refusal {
+pub fn write_contact(out: &mut [u8], name: &[u8], values: ContactValues, edition: Edition) -> c::Refusal {
     let valid = record::ContactInfo::Dmr {
         id: 0,
         contact_type: 0,
@@ -264,10 +264,10 @@ pub fn write_contact(out: &mut [u8], name: &[u8], values: ContactValues) -> c::R
                 info: valid,
             };
             let mode = Err(Refusal::at(Reason::Mode, 32));
-            return written(probe.write(&mut out.to_vec()).and(mode));
+            return written(probe.write(&mut out.to_vec(), edition).and(mode));
         }
     };
-    written(Contact { name: name.to_vec(), info }.write(out))
+    written(Contact { name: name.to_vec(), info }.write(out, edition))
 }
 
 /// A channel's numbers by its mode; `None` where the mode is foreign.

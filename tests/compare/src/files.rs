@@ -4,6 +4,7 @@ use obcf_second::doubtful;
 use obcf_second::sample::{self, Limits, Rng, Shape, Span};
 use obcf_second::Codeplug;
 
+use crate::edition::By;
 use crate::reading::{How, Read, Reading};
 use crate::report::Compared;
 use crate::work::Work;
@@ -26,17 +27,18 @@ pub const SMALL: Shape = Shape {
 
 /// A file of any sort: validated, and every record read, or some of a large one.
 pub fn any(work: &mut Work, rng: &mut Rng) -> Compared {
+    let by = By::any(rng);
     let file = match rng.below(8) {
-        0 => sample::file(rng, SMALL),
-        1 => sample::file(rng, FEW),
-        _ => doubtful::file(rng),
+        0 => sample::file(rng, SMALL, by.edition),
+        1 => sample::file(rng, FEW, by.edition),
+        _ => doubtful::file(rng, by.edition),
     };
-    read(work, rng, &file)
+    read(work, rng, &file, by)
 }
 
 /// Lends a file, validates it and reads its records.
-pub fn read(work: &mut Work, rng: &mut Rng, file: &[u8]) -> Compared {
-    let mut reading = Reading::of(work.file.lend(file), &mut work.texts, &mut work.tally);
+pub fn read(work: &mut Work, rng: &mut Rng, file: &[u8], by: By) -> Compared {
+    let mut reading = Reading::of(work.file.lend(file), by, &mut work.texts, &mut work.tally);
     read_all(&mut reading, rng)
 }
 
@@ -109,9 +111,10 @@ fn places(rng: &mut Rng, count: usize, how: How) -> Vec<usize> {
 
 /// A valid file with each field spoiled, and each byte changed, one at a time.
 pub fn damaged(work: &mut Work, rng: &mut Rng) -> Compared {
-    let valid = sample::file(rng, FEW);
+    let by = By::any(rng);
+    let valid = sample::file(rng, FEW, by.edition);
     let spans = sample::file_spans(&valid);
-    each_damage(rng, &valid, &spans, |_, file| validate(work, file))
+    each_damage(rng, &valid, &spans, |_, file| validate(work, file, by))
 }
 
 /// Each field of a file spoiled twice and each byte changed once, one at a time.
@@ -144,11 +147,14 @@ pub fn each_damage(rng: &mut Rng, valid: &[u8], spans: &[Span], mut compare: imp
     Ok(())
 }
 
-/// A file, valid or spoiled, cut at every length and with more after it.
+/// A file, valid or spoiled, or with hash addresses by the older edition, cut at
+/// every length and with more after it.
 pub fn cut(work: &mut Work, rng: &mut Rng) -> Compared {
-    let file = sample::file(rng, FEW);
+    let by = By::any(rng);
+    let made_by = doubtful::made_by(rng, by.edition);
+    let file = sample::file(rng, FEW, made_by);
     let spans = sample::file_spans(&file);
-    each_cut(rng, file, &spans, |_, file| validate(work, file))
+    each_cut(rng, file, &spans, |_, file| validate(work, file, by))
 }
 
 /// A file at every length below its own and at some above, one in three spoiled.
@@ -166,6 +172,6 @@ pub fn each_cut(rng: &mut Rng, mut file: Vec<u8>, spans: &[Span], mut compare: i
     compare(rng, &file)
 }
 
-fn validate(work: &mut Work, file: &[u8]) -> Compared {
-    Reading::of(work.file.lend(file), &mut work.texts, &mut work.tally).validated()
+fn validate(work: &mut Work, file: &[u8], by: By) -> Compared {
+    Reading::of(work.file.lend(file), by, &mut work.texts, &mut work.tally).validated()
 }

@@ -4,7 +4,7 @@
 use obcf_second::history::{self, Entry};
 use obcf_second::lists;
 use obcf_second::sample::Rng;
-use obcf_second::LONGEST;
+use obcf_second::{Edition, LONGEST};
 
 use crate::expected;
 use crate::interface as library;
@@ -30,7 +30,7 @@ pub fn any(work: &mut Work, rng: &mut Rng) -> Compared {
 pub fn count(work: &mut Work, history: &[u8]) -> Compared {
     let found = library::history_entries(work.history.lend(history));
     let right = expected::history(history::count(history));
-    work.tally.add(right.number);
+    work.tally.add_plain(right.number);
     if found != right {
         return Err(Difference::of(&"history_entries", &[("history", history)], &found, &right));
     }
@@ -39,7 +39,8 @@ pub fn count(work: &mut Work, history: &[u8]) -> Compared {
 
 /// What a list of calls leaves.
 fn by_calls(rng: &mut Rng) -> Vec<u8> {
-    let (mut lent, calls) = lists::list(rng);
+    let edition = rng.pick(&Edition::BOTH);
+    let (mut lent, calls) = lists::list(rng, edition);
     for call in &calls {
         let _ = lent.call(call);
     }

@@ -11,6 +11,8 @@ pub use codeplug::c::{
     EncodeAnswer, HeaderAnswer, HistoryAnswer, Refusal, ValidateAnswer,
 };
 
+use crate::edition::By;
+
 // The slices keep what the header asks of a caller: a pointer with as many
 // bytes as its length says, and no overlap.
 
@@ -37,26 +39,26 @@ fn at_mut(bytes: &mut [u8]) -> *mut u8 {
     }
 }
 
-pub fn validate(file: &[u8]) -> ValidateAnswer {
-    unsafe { c::codeplug_validate(at(file), file.len()) }
+pub fn validate(file: &[u8], by: By) -> ValidateAnswer {
+    unsafe { c::codeplug_validate(at(file), file.len(), by.number) }
 }
 
-pub fn validate_legacy(file: &[u8]) -> ValidateAnswer {
-    unsafe { c::codeplug_validate_legacy(at(file), file.len()) }
+pub fn validate_legacy(file: &[u8], by: By) -> ValidateAnswer {
+    unsafe { c::codeplug_validate_legacy(at(file), file.len(), by.number) }
 }
 
-pub fn migrate(file: &mut [u8]) -> ValidateAnswer {
-    unsafe { c::codeplug_migrate(at_mut(file), file.len()) }
+pub fn migrate(file: &mut [u8], by: By) -> ValidateAnswer {
+    unsafe { c::codeplug_migrate(at_mut(file), file.len(), by.number) }
 }
 
-pub fn header(file: &[u8], texts: &mut [u8]) -> HeaderAnswer {
-    unsafe { c::codeplug_header(at(file), file.len(), at_mut(texts), texts.len()) }
+pub fn header(file: &[u8], texts: &mut [u8], by: By) -> HeaderAnswer {
+    unsafe { c::codeplug_header(at(file), file.len(), at_mut(texts), texts.len(), by.number) }
 }
 
 macro_rules! readers {
     ($($name:ident $function:ident $answer:ty;)*) => { $(
-        pub fn $name(file: &[u8], n: usize, texts: &mut [u8]) -> $answer {
-            unsafe { c::$function(at(file), file.len(), n, at_mut(texts), texts.len()) }
+        pub fn $name(file: &[u8], n: usize, texts: &mut [u8], by: By) -> $answer {
+            unsafe { c::$function(at(file), file.len(), n, at_mut(texts), texts.len(), by.number) }
         }
     )* };
 }
@@ -66,20 +68,28 @@ readers! {
     channel codeplug_channel ChannelAnswer;
     bank codeplug_bank BankAnswer;
     contact_prevalidated codeplug_contact_prevalidated ContactAnswer;
-    channel_prevalidated codeplug_channel_prevalidated ChannelAnswer;
-    bank_prevalidated codeplug_bank_prevalidated BankAnswer;
 }
 
-pub fn bank_entry(file: &[u8], bank: usize, i: usize) -> BankEntryAnswer {
-    unsafe { c::codeplug_bank_entry(at(file), file.len(), bank, i) }
+/// Sees no address, and so takes no edition.
+pub fn channel_prevalidated(file: &[u8], n: usize, texts: &mut [u8], _: By) -> ChannelAnswer {
+    unsafe { c::codeplug_channel_prevalidated(at(file), file.len(), n, at_mut(texts), texts.len()) }
+}
+
+/// Sees no address either.
+pub fn bank_prevalidated(file: &[u8], n: usize, texts: &mut [u8], _: By) -> BankAnswer {
+    unsafe { c::codeplug_bank_prevalidated(at(file), file.len(), n, at_mut(texts), texts.len()) }
+}
+
+pub fn bank_entry(file: &[u8], bank: usize, i: usize, by: By) -> BankEntryAnswer {
+    unsafe { c::codeplug_bank_entry(at(file), file.len(), bank, i, by.number) }
 }
 
 pub fn bank_entry_prevalidated(file: &[u8], bank: usize, i: usize) -> BankEntryAnswer {
     unsafe { c::codeplug_bank_entry_prevalidated(at(file), file.len(), bank, i) }
 }
 
-pub fn write_contact(out: &mut [u8], name: &[u8], values: ContactValues) -> Refusal {
-    unsafe { c::codeplug_write_contact(at_mut(out), out.len(), at(name), name.len(), values) }
+pub fn write_contact(out: &mut [u8], name: &[u8], values: ContactValues, by: By) -> Refusal {
+    unsafe { c::codeplug_write_contact(at_mut(out), out.len(), at(name), name.len(), values, by.number) }
 }
 
 pub fn write_channel(out: &mut [u8], name: &[u8], description: &[u8], common: ChannelCommon, info: ChannelInfo) -> Refusal {
@@ -96,12 +106,12 @@ pub fn write_empty(out: &mut [u8]) -> Refusal {
     unsafe { c::codeplug_write_empty(at_mut(out), out.len()) }
 }
 
-pub fn encode_callsign(text: &[u8]) -> EncodeAnswer {
-    unsafe { c::codeplug_encode_callsign(at(text), text.len()) }
+pub fn encode_callsign(text: &[u8], by: By) -> EncodeAnswer {
+    unsafe { c::codeplug_encode_callsign(at(text), text.len(), by.number) }
 }
 
-pub fn decode_address(address: u64, out: &mut [u8]) -> DecodeAnswer {
-    unsafe { c::codeplug_decode_address(address, at_mut(out), out.len()) }
+pub fn decode_address(address: u64, out: &mut [u8], by: By) -> DecodeAnswer {
+    unsafe { c::codeplug_decode_address(address, at_mut(out), out.len(), by.number) }
 }
 
 pub fn tone_frequency(index: u8) -> u16 {
@@ -120,7 +130,7 @@ pub struct EditRequest {
     pub second: usize,
 }
 
-pub fn edit(room: &mut [u8], length: usize, history: &mut [u8], used: usize, request: EditRequest, record: &[u8]) -> EditAnswer {
+pub fn edit(room: &mut [u8], length: usize, history: &mut [u8], used: usize, request: EditRequest, record: &[u8], by: By) -> EditAnswer {
     unsafe {
         c::codeplug_edit(
             at_mut(room),
@@ -134,12 +144,13 @@ pub fn edit(room: &mut [u8], length: usize, history: &mut [u8], used: usize, req
             request.second,
             at(record),
             record.len(),
+            by.number,
         )
     }
 }
 
-pub fn undo(room: &mut [u8], length: usize, history: &mut [u8], used: usize) -> EditAnswer {
-    unsafe { c::codeplug_undo(at_mut(room), room.len(), length, at_mut(history), history.len(), used) }
+pub fn undo(room: &mut [u8], length: usize, history: &mut [u8], used: usize, by: By) -> EditAnswer {
+    unsafe { c::codeplug_undo(at_mut(room), room.len(), length, at_mut(history), history.len(), used, by.number) }
 }
 
 pub fn history_entries(history: &[u8]) -> HistoryAnswer {

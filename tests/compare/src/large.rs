@@ -6,9 +6,10 @@ use obcf_second::edit::Edit;
 use obcf_second::lists::{self, Lent};
 use obcf_second::record::NO_CONTACT;
 use obcf_second::sample::{self, Rng, Span};
-use obcf_second::{doubtful, Codeplug, LONGEST};
+use obcf_second::{doubtful, Codeplug, Edition, LONGEST};
 
-use crate::calls::follow;
+use crate::calls::{follow, Made};
+use crate::edition::By;
 use crate::files;
 use crate::legacy;
 use crate::report::Compared;
@@ -18,30 +19,33 @@ const MOST_ENTRIES: usize = 65_535;
 
 /// A file or, as often, calls; now and then a legacy file.
 pub fn any(work: &mut Work, rng: &mut Rng) -> Compared {
+    let by = By::any(rng);
     match rng.below(11) {
-        0 => legacy_file(work, rng),
-        1..=5 => file(work, rng),
-        _ => calls(work, rng),
+        0 => legacy_file(work, rng, by),
+        1..=5 => file(work, rng, by),
+        _ => calls(work, rng, by),
     }
 }
 
-/// A large file: read, then damaged, cut or made longer.
-fn file(work: &mut Work, rng: &mut Rng) -> Compared {
-    let mut file = valid(rng);
-    files::read(work, rng, &file)?;
+/// A large file: read, then damaged, cut or made longer. By the older edition it
+/// may have hash addresses.
+fn file(work: &mut Work, rng: &mut Rng, by: By) -> Compared {
+    let made_by = doubtful::made_by(rng, by.edition);
+    let mut file = valid(rng, made_by);
+    files::read(work, rng, &file, by)?;
     let spans = sample::file_spans(&file);
     damage(rng, &mut file, &spans);
-    files::read(work, rng, &file)
+    files::read(work, rng, &file, by)
 }
 
 /// A large legacy file: migrated, and again after it is damaged.
-fn legacy_file(work: &mut Work, rng: &mut Rng) -> Compared {
-    let mut file = valid(rng);
+fn legacy_file(work: &mut Work, rng: &mut Rng, by: By) -> Compared {
+    let mut file = valid(rng, by.edition);
     sample::to_legacy(&mut file);
-    legacy::migrate(work, rng, &file)?;
+    legacy::migrate(work, rng, &file, by)?;
     let spans = sample::legacy_file_spans(&file);
     damage(rng, &mut file, &spans);
-    legacy::migrate(work, rng, &file)
+    legacy::migrate(work, rng, &file, by)
 }
 
 fn damage(rng: &mut Rng, file: &mut Vec<u8>, spans: &[Span]) {
@@ -54,8 +58,8 @@ fn damage(rng: &mut Rng, file: &mut Vec<u8>, spans: &[Span]) {
 
 /// A few calls on a large file, in a room that is exact or longer than any
 /// file.
-fn calls(work: &mut Work, rng: &mut Rng) -> Compared {
-    let file = valid(rng);
+fn calls(work: &mut Work, rng: &mut Rng, by: By) -> Compared {
+    let file = valid(rng, by.edition);
     let spare = match rng.below(4) {
         0 => 0,
         1 => rng.below(200),
@@ -71,27 +75,28 @@ fn calls(work: &mut Work, rng: &mut Rng) -> Compared {
         room: [file, lists::fill(rng, spare)].concat(),
         history: vec![0xEE; history],
         history_length: 0,
+        edition: by.edition,
     };
     let opening = lent.clone();
     let count = 1 + rng.below(4);
-    let list: Vec<Call> = (0..count)
+    let list: Vec<Made> = (0..count)
         .map(|_| {
             let file = lent.file().expect("a valid file stays valid");
             let call = if rng.one_in(3) {
-                grow(rng, file)
+                grow(rng, file, by.edition)
             } else {
-                lists::random_call(rng, file)
+                lists::random_call(rng, file, by.edition)
             };
             let _ = lent.call(&call);
-            call
+            (call, by)
         })
         .collect();
     follow(work, opening, &list)
 }
 
 /// An entry into one of the first banks, where 65,535 may stand already.
-fn grow(rng: &mut Rng, file: &[u8]) -> Call {
-    let codeplug = Codeplug::read(file).expect("a valid file");
+fn grow(rng: &mut Rng, file: &[u8], edition: Edition) -> Call {
+    let codeplug = Codeplug::read(file, edition).expect("a valid file");
     if codeplug.banks.is_empty() {
         return Call::Edit(Edit {
             kind: 7,
@@ -111,14 +116,14 @@ fn grow(rng: &mut Rng, file: &[u8]) -> Call {
 }
 
 /// A valid file of about the greatest length, and now and then of just it.
-fn valid(rng: &mut Rng) -> Vec<u8> {
-    let contact = sample::contact_bytes(&sample::contact(rng));
+fn valid(rng: &mut Rng, edition: Edition) -> Vec<u8> {
+    let first = contact(rng, edition);
     let channel = sample::channel_bytes(&sample::channel(rng, |_, _| None));
-    let mut contacts = vec![contact; 1 + rng.below(3)];
+    let mut contacts = vec![first; 1 + rng.below(3)];
     let mut channels = vec![channel; 1 + rng.below(3)];
     let mut banks = Vec::new();
     match rng.below(4) {
-        0 => contacts = varied(rng, 20_000, |rng| sample::contact_bytes(&sample::contact(rng))),
+        0 => contacts = varied(rng, 20_000, |rng| contact(rng, edition)),
         1 => {
             let modes: Vec<u8> = contacts.iter().map(|contact| contact[32]).collect();
             channels = varied(rng, 9_000, |rng| {
@@ -146,6 +151,10 @@ fn valid(rng: &mut Rng) -> Vec<u8> {
         banks.insert(0, lists::bank_of(&sample::padded_text(rng), &entries));
     }
     lists::file_of(rng, &contacts, &channels, &banks)
+}
+
+fn contact(rng: &mut Rng, edition: Edition) -> Vec<u8> {
+    sample::contact_bytes(&sample::contact(rng, edition), edition)
 }
 
 /// Up to so many records, not all of them alike.

@@ -1,5 +1,6 @@
 //! Compares the proved library, called through its C interface, with the
-//! second program: every answer, and every lent buffer whole.
+//! second program: every answer, and every lent buffer whole; and by one
+//! edition of M17 addresses with itself by the other.
 //!
 //!     compare shares              the shares of all parts, a line for each; what takes longest stands first
 //!     compare short PART SHARE    a share of a part's fixed number of cases from fixed seeds
@@ -7,7 +8,10 @@
 //!     compare case PART SEED      one seed of a part again
 
 mod addresses;
+mod borders;
 mod calls;
+mod edition;
+mod editions;
 mod expected;
 mod fence;
 mod files;
@@ -86,17 +90,11 @@ fn seeds_of(run: u64, part: usize) -> Rng {
 }
 
 fn line(name: &str, seeds: u64, tally: &Tally, time: Duration) {
-    let refusals: Vec<String> = tally.refusals().iter().map(u8::to_string).collect();
     println!(
-        "{name}: {} cases alike, {} of them accepted, from {seeds} seeds in {:.1} s; refusals met: {}",
+        "{name}: {} cases alike, {} of them accepted, from {seeds} seeds in {:.1} s{tally}",
         tally.cases(),
         tally.accepted(),
         time.as_secs_f64(),
-        if refusals.is_empty() {
-            "none".to_string()
-        } else {
-            refusals.join(" ")
-        },
     );
 }
 
@@ -125,14 +123,11 @@ fn short(n: usize, share: u64) -> bool {
         }
     }
     line(part.name, compared, &work.tally, start.elapsed());
-    let met = work.tally.refusals();
-    match part.meets.iter().find(|number| !met.contains(number)) {
-        None => true,
-        Some(number) => {
-            eprintln!("{}: refusal {number} was not met", part.name);
-            false
-        }
+    let unmet = part.unmet(&work.tally);
+    for what in &unmet {
+        eprintln!("{}: {what} was not met", part.name);
     }
+    unmet.is_empty()
 }
 
 fn long(seed: u64, minutes: u64) -> bool {

@@ -7,6 +7,7 @@ use obcf_second::record::{Contact, CONTACT_SIZE, TEXT_SIZE};
 use obcf_second::sample::Rng;
 use obcf_second::{Codeplug, Reason, Refusal};
 
+use crate::edition::By;
 use crate::expected;
 use crate::fence::Fence;
 use crate::interface as library;
@@ -18,6 +19,7 @@ const LONGEST_TEXTS: usize = 80;
 /// A file that is lent to the library, and what the second program reads.
 pub struct Reading<'a> {
     file: &'a [u8],
+    by: By,
     codeplug: Result<Codeplug, Refusal>,
     texts: &'a mut Fence,
     tally: &'a mut Tally,
@@ -41,14 +43,16 @@ pub enum Read {
 }
 
 impl<'a> Reading<'a> {
-    pub fn of(file: &'a [u8], texts: &'a mut Fence, tally: &'a mut Tally) -> Reading<'a> {
-        Reading::holding(file, Codeplug::read(file), texts, tally)
+    pub fn of(file: &'a [u8], by: By, texts: &'a mut Fence, tally: &'a mut Tally) -> Reading<'a> {
+        let codeplug = Codeplug::read(file, by.edition);
+        Reading::holding(file, by, codeplug, texts, tally)
     }
 
-    /// A file that has to read as this.
-    pub fn holding(file: &'a [u8], codeplug: Result<Codeplug, Refusal>, texts: &'a mut Fence, tally: &'a mut Tally) -> Reading<'a> {
+    /// A file that has to read as this, by the edition.
+    pub fn holding(file: &'a [u8], by: By, codeplug: Result<Codeplug, Refusal>, texts: &'a mut Fence, tally: &'a mut Tally) -> Reading<'a> {
         Reading {
             file,
+            by,
             codeplug,
             texts,
             tally,
@@ -60,11 +64,11 @@ impl<'a> Reading<'a> {
     }
 
     pub fn validated(&mut self) -> Compared {
-        let found = library::validate(self.file);
+        let found = library::validate(self.file, self.by);
         let counts = self.codeplug.as_ref().map(|codeplug| codeplug.header.counts);
         let right = expected::validated(counts.map_err(|&refusal| refusal));
-        self.tally.add(right.number);
-        alike(Read::Validate, &[("file", self.file)], found, right)
+        self.tally.add(self.by, right.number);
+        alike((Read::Validate, self.by), &[("file", self.file)], found, right)
     }
 
     pub fn read(&mut self, rng: &mut Rng, what: Read) -> Compared {
@@ -78,14 +82,14 @@ impl<'a> Reading<'a> {
 
     fn entry(&mut self, bank: usize, i: usize, how: How) -> Compared {
         let found = match how {
-            How::Validating => library::bank_entry(self.file, bank, i),
+            How::Validating => library::bank_entry(self.file, bank, i, self.by),
             How::Prevalidated => library::bank_entry_prevalidated(self.file, bank, i),
         };
         let banks = self.codeplug.as_ref().map(|codeplug| &codeplug.banks).map_err(|&refusal| refusal);
         let entries = banks.and_then(|banks| pick(banks, bank)).map(|bank| &bank.entries);
         let right = expected::entry(entries.and_then(|entries| pick(entries, i)).copied(), i);
-        self.tally.add(right.number);
-        alike(Read::Entry(bank, i, how), &[("file", self.file)], found, right)
+        self.tally.add(self.by, right.number);
+        alike((Read::Entry(bank, i, how), self.by), &[("file", self.file)], found, right)
     }
 
     /// A reader with a text buffer, which is most often just long enough.
@@ -103,38 +107,38 @@ impl<'a> Reading<'a> {
 
     /// A reader's answer. The texts that it has to write are put into `after`.
     fn answer(&mut self, what: Read, too_short: Option<Refusal>, before: &[u8], after: &mut [u8]) -> Compared {
-        let (file, texts) = (self.file, self.texts.slice());
+        let (file, by, texts) = (self.file, self.by, self.texts.slice());
         let codeplug = too_short.map_or(self.codeplug.as_ref().map_err(|&refusal| refusal), Err);
         macro_rules! compare {
             ($found:expr, $right:expr) => {{
                 let (found, right) = ($found, $right);
-                self.tally.add(right.number);
-                alike(what, &[("file", file), ("texts", before)], found, right)
+                self.tally.add(by, right.number);
+                alike((what, by), &[("file", file), ("texts", before)], found, right)
             }};
         }
         match what {
             Read::Header => {
                 let answer = codeplug.map(|codeplug| &codeplug.header);
                 put_texts(after, answer, |header| [&header.author, &header.description]);
-                compare!(library::header(file, texts), expected::header(answer))
+                compare!(library::header(file, texts, by), expected::header(answer))
             }
             Read::Contact(n, how) => {
                 let answer = codeplug.and_then(|codeplug| pick(&codeplug.contacts, n));
                 put_texts(after, answer, |contact| [&contact.name]);
                 let reader = [library::contact, library::contact_prevalidated][how as usize];
-                compare!(reader(file, n, texts), expected::contact(answer))
+                compare!(reader(file, n, texts, by), expected::contact(answer))
             }
             Read::Channel(n, how) => {
                 let answer = codeplug.and_then(|codeplug| pick(&codeplug.channels, n));
                 put_texts(after, answer, |channel| [&channel.name, &channel.description]);
                 let reader = [library::channel, library::channel_prevalidated][how as usize];
-                compare!(reader(file, n, texts), expected::channel(answer))
+                compare!(reader(file, n, texts, by), expected::channel(answer))
             }
             Read::Bank(n, how) => {
                 let answer = codeplug.and_then(|codeplug| pick(&codeplug.banks, n));
                 put_texts(after, answer, |bank| [&bank.name]);
                 let reader = [library::bank, library::bank_prevalidated][how as usize];
-                compare!(reader(file, n, texts), expected::bank(answer))
+                compare!(reader(file, n, texts, by), expected::bank(answer))
             }
             Read::Validate | Read::Entry(..) => unreachable!("these have no texts"),
         }
@@ -144,7 +148,12 @@ impl<'a> Reading<'a> {
     fn same_texts(&mut self, call: Read, before: &[u8], after: &[u8]) -> Compared {
         if self.texts.slice() != after || !self.texts.whole() {
             let (found, right) = bytes_differ(self.texts.slice(), after);
-            return Err(Difference::of(&call, &[("file", self.file), ("texts", before)], &found, &right));
+            return Err(Difference::of(
+                &(call, self.by),
+                &[("file", self.file), ("texts", before)],
+                &found,
+                &right,
+            ));
         }
         Ok(())
     }
@@ -174,24 +183,24 @@ impl Reading<'_> {
     pub fn read_invalid(&mut self, n: usize) -> Compared {
         let file = self.file;
         let before = [0xEE; 2 * TEXT_SIZE];
-        library::channel_prevalidated(file, n, self.texts.lend(&before));
+        library::channel_prevalidated(file, n, self.texts.lend(&before), self.by);
         self.only_texts(n, 2 * TEXT_SIZE)?;
-        library::bank_prevalidated(file, n, self.texts.lend(&before));
+        library::bank_prevalidated(file, n, self.texts.lend(&before), self.by);
         self.only_texts(n, TEXT_SIZE)?;
         library::bank_entry_prevalidated(file, n, n);
-        let found = library::contact_prevalidated(file, n, self.texts.lend(&before));
+        let found = library::contact_prevalidated(file, n, self.texts.lend(&before), self.by);
         self.only_texts(n, TEXT_SIZE)?;
         if file.len() < HEADER_SIZE {
             return Ok(());
         }
-        let answer = contact_alone(file, n);
+        let answer = contact_alone(file, n, self.by);
         let answer = answer.as_ref().map_err(|&refusal| refusal);
         let right = expected::contact(answer);
-        self.tally.add(right.number);
+        self.tally.add(self.by, right.number);
         let mut after = before;
         put_texts(&mut after, answer, |contact| [&contact.name]);
         let call = Read::Contact(n, How::Prevalidated);
-        alike(call, &[("file", file), ("texts", &before)], found, right)?;
+        alike((call, self.by), &[("file", file), ("texts", &before)], found, right)?;
         self.same_texts(call, &before, &after)
     }
 
@@ -211,13 +220,13 @@ impl Reading<'_> {
 }
 
 /// Contact n of a file with a header, by its record alone.
-fn contact_alone(file: &[u8], n: usize) -> Result<Contact, Refusal> {
+fn contact_alone(file: &[u8], n: usize, by: By) -> Result<Contact, Refusal> {
     let count = usize::from(u16::from_le_bytes([file[82], file[83]]));
     if n >= count {
         return Err(Reason::NoSuchPlace.into());
     }
     let place = HEADER_SIZE + CONTACT_SIZE * n;
-    Contact::read(&file[place.min(file.len())..]).map_err(|refusal| Refusal {
+    Contact::read(&file[place.min(file.len())..], by.edition).map_err(|refusal| Refusal {
         place: place + refusal.place,
         ..refusal
     })
@@ -237,7 +246,7 @@ fn put_texts<T, const N: usize>(buffer: &mut [u8], answer: Result<&T, Refusal>, 
     }
 }
 
-fn alike<A: Debug + PartialEq>(call: Read, lent: &[(&'static str, &[u8])], found: A, right: A) -> Compared {
+fn alike<A: Debug + PartialEq>(call: (Read, By), lent: &[(&'static str, &[u8])], found: A, right: A) -> Compared {
     if found != right {
         return Err(Difference::of(&call, lent, &found, &right));
     }

@@ -4,8 +4,9 @@
 use obcf_second::codeplug::write_empty;
 use obcf_second::record::{self, CHANNEL_SIZE, CONTACT_SIZE, NO_CONTACT, TEXT_SIZE};
 use obcf_second::sample::{self, Rng};
-use obcf_second::{address::BROADCAST, doubtful};
+use obcf_second::{address::BROADCAST, doubtful, Edition};
 
+use crate::edition::By;
 use crate::expected;
 use crate::interface::{self as library, ChannelCommon, ChannelInfo, ContactValues, Refusal};
 use crate::report::{bytes_differ, Compared, Difference};
@@ -18,13 +19,20 @@ const LONGEST_OUT: usize = 140;
 const LONGEST_TEXT: usize = 40;
 
 pub fn contact(work: &mut Work, rng: &mut Rng) -> Compared {
-    let values = contact_values(rng);
+    let by = By::any(rng);
+    let values = contact_values(rng, by.edition);
     let name = text(rng);
     let before = out_before(rng, CONTACT_SIZE);
-    let mut after = before.clone();
-    let right = expected::write_contact(&mut after, &name, values);
-    let found = library::write_contact(work.out.lend(&before), work.name.lend(&name), values);
-    compared(work, &values, &[("out", &before), ("name", &name)], (found, right), &after)
+    write_contact(work, &before, &name, values, by)
+}
+
+/// A contact written into a buffer that holds these bytes.
+pub fn write_contact(work: &mut Work, before: &[u8], name: &[u8], values: ContactValues, by: By) -> Compared {
+    let mut after = before.to_vec();
+    let right = expected::write_contact(&mut after, name, values, by.edition);
+    let found = library::write_contact(work.out.lend(before), work.name.lend(name), values, by);
+    work.tally.add(by, right.number);
+    compared(work, &(values, by), &[("out", before), ("name", name)], (found, right), &after)
 }
 
 pub fn channel(work: &mut Work, rng: &mut Rng) -> Compared {
@@ -37,6 +45,7 @@ pub fn channel(work: &mut Work, rng: &mut Rng) -> Compared {
     let (name_lent, description_lent) = (work.name.lend(&name), work.description.lend(&description));
     let found = library::write_channel(work.out.lend(&before), name_lent, description_lent, common, info);
     let lent: &[(&str, &[u8])] = &[("out", &before), ("name", &name), ("description", &description)];
+    work.tally.add_plain(right.number);
     compared(work, &(common, info), lent, (found, right), &after)
 }
 
@@ -65,6 +74,7 @@ fn write_text(work: &mut Work, text: &[u8], before: &[u8]) -> Compared {
     let mut after = before.to_vec();
     let right = expected::written(record::write_text(text, &mut after));
     let found = library::write_text(work.out.lend(before), work.name.lend(text));
+    work.tally.add_plain(right.number);
     compared(work, &"write_text", &[("out", before), ("text", text)], (found, right), &after)
 }
 
@@ -75,6 +85,7 @@ pub fn empty_codeplug(work: &mut Work, rng: &mut Rng) -> Compared {
         let mut after = before.clone();
         let right = expected::written(write_empty(&mut after));
         let found = library::write_empty(work.out.lend(&before));
+        work.tally.add_plain(right.number);
         compared(work, &"write_empty", &[("out", &before)], (found, right), &after)?;
     }
     Ok(())
@@ -88,7 +99,6 @@ fn compared(
     (found, right): (Refusal, Refusal),
     after: &[u8],
 ) -> Compared {
-    work.tally.add(right.number);
     if found != right {
         return Err(Difference::of(values, lent, &found, &right));
     }
@@ -154,12 +164,12 @@ fn mode(rng: &mut Rng, modes: &[u8]) -> u8 {
     rng.pick(modes)
 }
 
-fn contact_values(rng: &mut Rng) -> ContactValues {
+pub fn contact_values(rng: &mut Rng, edition: Edition) -> ContactValues {
     ContactValues {
         address: match rng.below(6) {
             0 => sample::doubtful_number(rng),
             1 => BROADCAST,
-            _ => sample::callsign_number(rng),
+            _ => sample::callsign_number(rng, edition),
         },
         id: rng.number() as u32,
         mode: mode(rng, &[1, 2]),

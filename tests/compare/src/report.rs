@@ -1,11 +1,17 @@
 //! What was compared, and a difference where there is one.
 
+use std::collections::BTreeMap;
 use std::fmt::{self, Debug};
+
+use obcf_second::Edition;
+
+use crate::edition::By;
 
 /// The longest bytes that are shown whole.
 const SHOWN: usize = 8_192;
 
-/// A call that the two answer otherwise.
+/// A call that the two answer otherwise, or that the library answers otherwise
+/// than it has to by what it answered to another.
 pub struct Difference {
     call: String,
     lent: Vec<(&'static str, Vec<u8>)>,
@@ -51,27 +57,85 @@ pub fn bytes_differ(library: &[u8], second: &[u8]) -> (String, String) {
     (excerpt(library), excerpt(second))
 }
 
-/// How many calls got each answer: 0 for accepted, else the refusal.
-pub struct Tally([u64; 40]);
+/// What both editions were asked, and the numbers of the older's answer and of
+/// the newer's: 0 for accepted, else the refusal.
+pub type Pair = (&'static str, u8, u8);
+
+/// How many calls got each answer.
+pub struct Tally {
+    /// Of calls that take no edition, by the older one and by the newer.
+    answers: [[u64; 40]; 3],
+    pairs: BTreeMap<Pair, u64>,
+}
 
 impl Tally {
     pub fn new() -> Tally {
-        Tally([0; 40])
+        Tally {
+            answers: [[0; 40]; 3],
+            pairs: BTreeMap::new(),
+        }
     }
 
-    pub fn add(&mut self, number: u8) {
-        self.0[usize::from(number)] += 1;
+    pub fn add(&mut self, by: By, number: u8) {
+        self.answers[row(by.edition)][usize::from(number)] += 1;
+    }
+
+    /// A call that takes no edition.
+    pub fn add_plain(&mut self, number: u8) {
+        self.answers[0][usize::from(number)] += 1;
+    }
+
+    pub fn add_pair(&mut self, pair: Pair) {
+        *self.pairs.entry(pair).or_default() += 1;
     }
 
     pub fn cases(&self) -> u64 {
-        self.0.iter().sum()
+        self.answers.iter().flatten().sum()
     }
 
     pub fn accepted(&self) -> u64 {
-        self.0[0]
+        self.answers.iter().map(|answers| answers[0]).sum()
     }
 
-    pub fn refusals(&self) -> Vec<u8> {
-        (1..40).filter(|&n| self.0[usize::from(n)] > 0).collect()
+    /// Whether an answer was met: by that edition, or at all.
+    pub fn met(&self, number: u8, edition: Option<Edition>) -> bool {
+        let met = |row: usize| self.answers[row][usize::from(number)] > 0;
+        edition.map_or((0..3).any(met), |edition| met(row(edition)))
+    }
+
+    pub fn met_pair(&self, pair: Pair) -> bool {
+        self.pairs.contains_key(&pair)
+    }
+}
+
+fn row(edition: Edition) -> usize {
+    match edition {
+        Edition::Older => 1,
+        Edition::Newer => 2,
+    }
+}
+
+/// How many calls there were by each edition, which refusals they met, and which
+/// answers of the two editions to one question differed.
+impl fmt::Display for Tally {
+    fn fmt(&self, f: &mut fmt::Formatter<'_>) -> fmt::Result {
+        let names = ["without an edition", "by the older edition", "by the newer edition"];
+        for (name, answers) in names.iter().zip(&self.answers) {
+            let met: Vec<String> = (1..40).filter(|&n| answers[n] > 0).map(|n| n.to_string()).collect();
+            match answers.iter().sum::<u64>() {
+                0 => {}
+                cases if met.is_empty() => write!(f, "; {name} {cases}, no refusal")?,
+                cases => write!(f, "; {name} {cases}, refusals {}", met.join(" "))?,
+            }
+        }
+        let mut last = "";
+        for (what, older, newer) in self.pairs.keys().filter(|pair| pair.1 != pair.2) {
+            if *what != last {
+                write!(f, "; {what}, older and newer")?;
+                last = what;
+            }
+            write!(f, " {older}-{newer}")?;
+        }
+        Ok(())
     }
 }

@@ -5,6 +5,7 @@
 //! shares the reader with the rest of this crate, but none of the code that
 //! carries out edits and undos on bytes.
 
+use crate::address::Edition;
 use crate::codeplug::validate;
 use crate::edit::{Answer, Edit};
 use crate::refusal::{Reason, Refusal};
@@ -20,6 +21,7 @@ pub struct Book {
     opening: Vec<u8>,
     room_size: usize,
     history_size: usize,
+    edition: Edition,
     standing: Vec<Standing>,
 }
 
@@ -29,12 +31,14 @@ struct Standing {
 }
 
 impl Book {
-    /// A book over a valid opening file that fits its room.
-    pub fn open(opening: Vec<u8>, room_size: usize, history_size: usize) -> Book {
+    /// A book over an opening file that is valid by the edition and fits its
+    /// room. Every call goes by the same edition.
+    pub fn open(opening: Vec<u8>, room_size: usize, history_size: usize, edition: Edition) -> Book {
         Book {
             opening,
             room_size,
             history_size,
+            edition,
             standing: Vec::new(),
         }
     }
@@ -58,7 +62,7 @@ impl Book {
         let mut lists = Lists::from_valid_file(&before);
         lists.apply(edit)?;
         let after = lists.to_file();
-        validate(&after)?;
+        validate(&after, self.edition)?;
         if after.len() > self.room_size {
             return Err(Reason::RoomFull.into());
         }

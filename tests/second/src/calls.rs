@@ -4,18 +4,25 @@
 use obcf_second::book::{Book, Call};
 use obcf_second::lists::{list, Lent};
 use obcf_second::sample::Rng;
+use obcf_second::Edition;
 
 use crate::corpus::{checksum, Case, LONGEST_CASE};
 
 /// A list of calls and its lines.
 pub fn case(rng: &mut Rng) -> (Vec<u8>, String) {
-    let (lent, calls) = list(rng);
+    let (lent, calls) = next_list(rng);
     let case = body(&lent, &calls);
-    if case.len() > LONGEST_CASE {
-        return self::case(rng);
+    (case, answers(lent, &calls).join("\n"))
+}
+
+/// The next list that a case can hold. All its calls go by one edition.
+pub fn next_list(rng: &mut Rng) -> (Lent, Vec<Call>) {
+    let edition = rng.pick(&Edition::BOTH);
+    let (lent, calls) = list(rng, edition);
+    if body(&lent, &calls).len() > LONGEST_CASE {
+        return next_list(rng);
     }
-    let lines = answers(lent, &calls);
-    (case, lines.join("\n"))
+    (lent, calls)
 }
 
 fn body(lent: &Lent, calls: &[Call]) -> Vec<u8> {
@@ -32,6 +39,7 @@ fn body(lent: &Lent, calls: &[Call]) -> Vec<u8> {
         .raw(&(lent.room.len() as u32).to_le_bytes())
         .raw(&(lent.history.len() as u32).to_le_bytes())
         .raw(&(calls.0.len() as u32).to_le_bytes())
+        .raw(&(lent.edition as u32).to_le_bytes())
         .raw(&lent.length.to_le_bytes())
         .raw(&lent.history_length.to_le_bytes())
         .raw(&lent.room)
@@ -42,12 +50,13 @@ fn body(lent: &Lent, calls: &[Call]) -> Vec<u8> {
 
 /// Makes the calls and gives their lines. Where a book can be opened over the
 /// buffers, it must give the same answers and hold the same file.
-fn answers(mut lent: Lent, calls: &[Call]) -> Vec<String> {
+pub fn answers(mut lent: Lent, calls: &[Call]) -> Vec<String> {
     let mut book = match lent.file() {
         Some(file) if lent.history_length == 0 => Some(Book::open(
             file.to_vec(),
             lent.room.len(),
             lent.history.len(),
+            lent.edition,
         )),
         _ => None,
     };

@@ -1,6 +1,7 @@
 //! The whole file: validating it, reading its records and writing the empty one
 //! (paper: The file).
 
+use crate::address::Edition;
 use crate::cursor::Cursor;
 use crate::record::{split_settings, Channel, Contact, Split, Text, TEXT_SIZE};
 use crate::refusal::{ensure, Reason, Refusal};
@@ -51,8 +52,8 @@ pub struct Codeplug {
 }
 
 /// The counts of a valid file, or its refusal.
-pub fn validate(bytes: &[u8]) -> Result<Counts, Refusal> {
-    Ok(Codeplug::read(bytes)?.header.counts)
+pub fn validate(bytes: &[u8], edition: Edition) -> Result<Counts, Refusal> {
+    Ok(Codeplug::read(bytes, edition)?.header.counts)
 }
 
 /// Writes the empty codeplug over the first 88 bytes of `out`: no author, no
@@ -71,19 +72,23 @@ pub fn write_empty(out: &mut [u8]) -> Result<(), Refusal> {
 
 impl Codeplug {
     /// Reads a file: 1 first, then fields in file order.
-    pub fn read(bytes: &[u8]) -> Result<Codeplug, Refusal> {
-        Codeplug::read_by(bytes, split_settings)
+    pub fn read(bytes: &[u8], edition: Edition) -> Result<Codeplug, Refusal> {
+        Codeplug::read_by(bytes, split_settings, edition)
     }
 
     /// `split` is how the reading splits traits and contact settings.
-    pub(crate) fn read_by(bytes: &[u8], split: Split) -> Result<Codeplug, Refusal> {
+    pub(crate) fn read_by(
+        bytes: &[u8],
+        split: Split,
+        edition: Edition,
+    ) -> Result<Codeplug, Refusal> {
         ensure(bytes.len() <= LONGEST, Reason::TooLong, 0)?;
         let cursor = &mut Cursor::new(bytes);
         let header = Header::read_at(cursor)?;
         let counts = header.counts;
 
         let contacts = (0..counts.contacts)
-            .map(|_| Contact::read_at(cursor, split))
+            .map(|_| Contact::read_at(cursor, split, edition))
             .collect::<Result<Vec<_>, _>>()?;
         let channels = (0..counts.channels)
             .map(|_| {
@@ -95,20 +100,7 @@ impl Codeplug {
             })
             .collect::<Result<Vec<_>, _>>()?;
 
-        // The table must be inside the file at this point; each offset is
-        // validated when its bank is reached.
-        let offsets = (0..counts.banks)
-            .map(|_| cursor.u32())
-            .collect::<Result<Vec<_>, _>>()?;
-        let origin = cursor.place();
-        let banks = offsets
-            .into_iter()
-            .map(|offset| {
-                let expected = cursor.place() - origin;
-                offset.check(Reason::BankOffset, |&n| n as usize == expected)?;
-                Bank::read_at(cursor, counts.channels)
-            })
-            .collect::<Result<Vec<_>, _>>()?;
+        let banks = Bank::read_all_at(cursor, counts)?;
         cursor.end()?;
         Ok(Codeplug {
             header,
@@ -145,6 +137,24 @@ impl Header {
 }
 
 impl Bank {
+    /// Reads the offset table and the banks after it.
+    fn read_all_at(cursor: &mut Cursor, counts: Counts) -> Result<Vec<Bank>, Refusal> {
+        // The table must be inside the file at this point; each offset is
+        // validated when its bank is reached.
+        let offsets = (0..counts.banks)
+            .map(|_| cursor.u32())
+            .collect::<Result<Vec<_>, _>>()?;
+        let origin = cursor.place();
+        offsets
+            .into_iter()
+            .map(|offset| {
+                let expected = cursor.place() - origin;
+                offset.check(Reason::BankOffset, |&n| n as usize == expected)?;
+                Bank::read_at(cursor, counts.channels)
+            })
+            .collect()
+    }
+
     fn read_at(cursor: &mut Cursor, channels: u16) -> Result<Bank, Refusal> {
         let name = cursor.text()?;
         let entry_count = cursor.u16()?.value;
@@ -157,33 +167,39 @@ impl Bank {
 
 // Reading one record of a file: the file's refusal, then 33.
 
-pub fn header(bytes: &[u8]) -> Result<Header, Refusal> {
-    Ok(Codeplug::read(bytes)?.header)
+pub fn header(bytes: &[u8], edition: Edition) -> Result<Header, Refusal> {
+    Ok(Codeplug::read(bytes, edition)?.header)
 }
 
-pub fn contact(bytes: &[u8], n: usize) -> Result<Contact, Refusal> {
-    pick(Codeplug::read(bytes)?.contacts, n)
+pub fn contact(bytes: &[u8], n: usize, edition: Edition) -> Result<Contact, Refusal> {
+    pick(Codeplug::read(bytes, edition)?.contacts, n)
 }
 
-pub fn channel(bytes: &[u8], n: usize) -> Result<Channel, Refusal> {
-    pick(Codeplug::read(bytes)?.channels, n)
+pub fn channel(bytes: &[u8], n: usize, edition: Edition) -> Result<Channel, Refusal> {
+    pick(Codeplug::read(bytes, edition)?.channels, n)
 }
 
-pub fn bank(bytes: &[u8], n: usize) -> Result<BankHead, Refusal> {
-    let bank = pick(Codeplug::read(bytes)?.banks, n)?;
+pub fn bank(bytes: &[u8], n: usize, edition: Edition) -> Result<BankHead, Refusal> {
+    let bank = pick(Codeplug::read(bytes, edition)?.banks, n)?;
     Ok(BankHead {
         name: bank.name,
         entry_count: bank.entries.len() as u16,
     })
 }
 
-pub fn bank_entry(bytes: &[u8], bank: usize, place: usize) -> Result<u16, Refusal> {
-    pick(pick(Codeplug::read(bytes)?.banks, bank)?.entries, place)
+pub fn bank_entry(
+    bytes: &[u8],
+    bank: usize,
+    place: usize,
+    edition: Edition,
+) -> Result<u16, Refusal> {
+    let bank = pick(Codeplug::read(bytes, edition)?.banks, bank)?;
+    pick(bank.entries, place)
 }
 
 /// The entries of bank `n`, to be read one at a time.
-pub fn bank_entries(bytes: &[u8], n: usize) -> Result<Entries, Refusal> {
-    let bank = pick(Codeplug::read(bytes)?.banks, n)?;
+pub fn bank_entries(bytes: &[u8], n: usize, edition: Edition) -> Result<Entries, Refusal> {
+    let bank = pick(Codeplug::read(bytes, edition)?.banks, n)?;
     Ok(Entries {
         rest: bank.entries.into_iter(),
     })

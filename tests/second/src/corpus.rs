@@ -10,7 +10,7 @@ use obcf_second::record::{
 };
 use obcf_second::sample::{self, Rng};
 use obcf_second::tone::Tone;
-use obcf_second::{migrate, validate, Counts, Refusal};
+use obcf_second::{migrate, validate, Counts, Edition, Refusal};
 
 use crate::calls;
 
@@ -19,77 +19,95 @@ pub type Generator = fn(&mut Rng) -> (Vec<u8>, String);
 
 pub fn generator(kind: &str) -> Option<Generator> {
     match kind {
-        "files" => Some(file_case),
-        "contacts" => Some(contact_case),
+        "files" => Some(|rng| with_edition(rng, file_case)),
+        "contacts" => Some(|rng| with_edition(rng, contact_case)),
         "channels" => Some(channel_case),
-        "addresses" => Some(address_case),
+        "addresses" => Some(|rng| with_edition(rng, address_case)),
         "mixed" => Some(mixed_case),
         "read" => Some(reading_case),
         "channels-read" => Some(channel_reading_case),
         "written" => Some(writing_case),
         "calls" => Some(calls::case),
-        "migrated" => Some(migrated_case),
+        "migrated" => Some(|rng| with_edition(rng, migrated_case)),
         _ => None,
     }
 }
 
-/// A case of any corpus, with a byte in front that says which: 0 file,
-/// 1 contact, 2 channel, 3 address.
+/// A case by one edition or the other, with a byte in front that says which:
+/// 0 older, 1 newer.
+fn with_edition(
+    rng: &mut Rng,
+    generate: fn(&mut Rng, Edition) -> (Vec<u8>, String),
+) -> (Vec<u8>, String) {
+    let edition = rng.pick(&Edition::BOTH);
+    let (case, line) = generate(rng, edition);
+    ([&[edition as u8], &case[..]].concat(), line)
+}
+
+// The byte in front of a mixed case is one of these, and 4 more for a case by
+// the newer edition.
+pub const FILE: u8 = 0;
+pub const CONTACT: u8 = 1;
+pub const CHANNEL: u8 = 2;
+pub const ADDRESS: u8 = 3;
+pub const NEWER: u8 = 4;
+
+/// A case of any corpus, with a byte in front that says which. A channel has no
+/// edition.
 fn mixed_case(rng: &mut Rng) -> (Vec<u8>, String) {
+    let edition = rng.pick(&Edition::BOTH);
     let (kind, (case, line)) = match rng.below(8) {
-        0 => (0, file_case(rng)),
-        1 | 2 => (1, contact_case(rng)),
-        3..=5 => (2, channel_case(rng)),
-        _ => (3, address_case(rng)),
+        0 => (FILE, file_case(rng, edition)),
+        1 | 2 => (CONTACT, contact_case(rng, edition)),
+        3..=5 => (CHANNEL, channel_case(rng)),
+        _ => (ADDRESS, address_case(rng, edition)),
     };
     if case.len() >= LONGEST_CASE {
         return mixed_case(rng);
     }
-    ([&[kind], &case[..]].concat(), line)
+    let newer = edition == Edition::Newer && kind != CHANNEL;
+    let front = if newer { kind + NEWER } else { kind };
+    ([&[front], &case[..]].concat(), line)
+}
+
+/// The next mixed case that is wanted by its kind and the byte after it.
+fn next_case(rng: &mut Rng, wanted: fn(u8, Option<&u8>) -> bool) -> (Vec<u8>, String) {
+    let (case, line) = mixed_case(rng);
+    if wanted(case[0] % NEWER, case.get(1)) {
+        return (case, line);
+    }
+    next_case(rng, wanted)
 }
 
 /// The next mixed case of a file, or of reading a contact or a text.
 fn reading_case(rng: &mut Rng) -> (Vec<u8>, String) {
-    let (case, line) = mixed_case(rng);
-    if case[0] == 0 || (case[0] != 2 && case[1] == READ) {
-        return (case, line);
-    }
-    reading_case(rng)
+    next_case(rng, |kind, action| {
+        kind == FILE || (kind != CHANNEL && action == Some(&READ))
+    })
 }
 
 /// The next mixed case of reading a channel.
 fn channel_reading_case(rng: &mut Rng) -> (Vec<u8>, String) {
-    let (case, line) = mixed_case(rng);
-    if case[0] == 2 && case[1] == READ {
-        return (case, line);
-    }
-    channel_reading_case(rng)
+    next_case(rng, |kind, action| kind == CHANNEL && action == Some(&READ))
 }
 
 /// The next mixed case of writing.
 fn writing_case(rng: &mut Rng) -> (Vec<u8>, String) {
-    let (case, line) = mixed_case(rng);
-    if case[0] != 0 && case[1] == WRITE {
-        return (case, line);
-    }
-    writing_case(rng)
+    next_case(rng, |kind, action| kind != FILE && action == Some(&WRITE))
 }
 
 // The first byte of a case, in the corpora with two kinds of cases.
-const READ: u8 = 0;
-const WRITE: u8 = 1;
+pub const READ: u8 = 0;
+pub const WRITE: u8 = 1;
 
 // Files.
 
 pub use obcf_second::doubtful::LONGEST_FILE as LONGEST_CASE;
 
-fn file_case(rng: &mut Rng) -> (Vec<u8>, String) {
-    validated(doubtful::file(rng))
-}
-
-fn validated(mut file: Vec<u8>) -> (Vec<u8>, String) {
+fn file_case(rng: &mut Rng, edition: Edition) -> (Vec<u8>, String) {
+    let mut file = doubtful::file(rng, edition);
     file.truncate(LONGEST_CASE);
-    let line = validate_line(validate(&file));
+    let line = validate_line(validate(&file, edition));
     (file, line)
 }
 
@@ -107,22 +125,23 @@ pub fn validate_line(answer: Result<Counts, Refusal>) -> String {
 // Legacy files.
 
 /// A file to migrate; the line ends with a sum over the file as it is left.
-fn migrated_case(rng: &mut Rng) -> (Vec<u8>, String) {
-    let file = doubtful::short_legacy_file(rng);
+fn migrated_case(rng: &mut Rng, edition: Edition) -> (Vec<u8>, String) {
+    let file = doubtful::short_legacy_file(rng, edition);
     let mut left = file.clone();
-    let answer = validate_line(migrate(&mut left));
+    let answer = validate_line(migrate(&mut left, edition));
     (file, format!("{answer} file {}", checksum(&left)))
 }
 
 // Contacts.
 
-fn contact_case(rng: &mut Rng) -> (Vec<u8>, String) {
-    let contact = sample::contact(rng);
+fn contact_case(rng: &mut Rng, edition: Edition) -> (Vec<u8>, String) {
+    let made_by = doubtful::made_by(rng, edition);
+    let contact = sample::contact(rng, made_by);
     if rng.flag() {
-        let valid = sample::contact_bytes(&contact);
+        let valid = sample::contact_bytes(&contact, made_by);
         let spans = sample::contact_spans(&valid);
         let record = doubtful::record_bytes(rng, valid, &spans);
-        let line = match Contact::read(&record) {
+        let line = match Contact::read(&record, edition) {
             Ok(contact) => contact_line(&contact),
             Err(refusal) => refusal.to_string(),
         };
@@ -145,7 +164,7 @@ fn contact_case(rng: &mut Rng) -> (Vec<u8>, String) {
         ContactInfo::M17(Address::Callsign(number)) => case.u8(2).raw(&number.to_le_bytes()),
         ContactInfo::M17(Address::Broadcast) => case.u8(3),
     };
-    let answer = contact.write(&mut buffer);
+    let answer = contact.write(&mut buffer, edition);
     (case.0, write_line(answer, &buffer))
 }
 
@@ -315,23 +334,23 @@ fn contact_text(contact: Option<u16>) -> String {
 
 // Addresses.
 
-fn address_case(rng: &mut Rng) -> (Vec<u8>, String) {
+fn address_case(rng: &mut Rng, edition: Edition) -> (Vec<u8>, String) {
     if rng.flag() {
         let text = doubtful::callsign(rng);
-        let line = match address::text_to_number(&text) {
+        let line = match address::text_to_number(&text, edition) {
             Ok(number) => format!("number {number}"),
             Err(refusal) => refusal.to_string(),
         };
         return (Case::new(READ).raw(&text).0, line);
     }
     let number = if rng.flag() {
-        sample::callsign_number(rng)
+        sample::callsign_number(rng, edition)
     } else {
         sample::doubtful_number(rng)
     };
     let mut buffer = doubtful::out_buffer(rng, MOST_CHARACTERS);
     let case = Case::new(WRITE).raw(&number.to_le_bytes()).raw(&buffer);
-    let line = match address::number_to_text(number, &mut buffer) {
+    let line = match address::number_to_text(number, &mut buffer, edition) {
         Ok(Address::Callsign(_)) => format!("text {}", hex(&buffer)),
         Ok(Address::Broadcast) => format!("broadcast {}", hex(&buffer)),
         Err(refusal) => format!("{refusal} {}", hex(&buffer)),
@@ -407,7 +426,6 @@ fn hex(bytes: &[u8]) -> String {
 #[cfg(test)]
 mod tests {
     use super::*;
-    use obcf_second::validate_legacy;
     use std::collections::BTreeMap;
 
     /// The first words of the lines of a corpus, refusals with their number.
@@ -417,7 +435,8 @@ mod tests {
         let mut answers = BTreeMap::new();
         for _ in 0..4_000 {
             let (case, lines) = generate(&mut rng);
-            assert!(case.len() <= LONGEST_CASE);
+            // A whole file has its edition's byte in front.
+            assert!(case.len() <= LONGEST_CASE + usize::from(kind == "files"));
             for line in lines.split('\n') {
                 let words = if line.starts_with("refused") { 2 } else { 1 };
                 let answer = line.split(' ').take(words).collect::<Vec<_>>().join(" ");
@@ -465,129 +484,6 @@ mod tests {
         let refusals: Vec<u8> = (2..=12).chain(30..=33).chain(35..=39).collect();
         covers("calls", &["done"], &refusals);
         covers("migrated", &["ok"], &[2, 3, 4, 5, 6, 7, 8, 9, 10, 11, 12]);
-    }
-
-    /// The cases that crates/corpus_migrated is run on.
-    fn migrated_cases() -> Vec<(Vec<u8>, String)> {
-        assert!(include_str!("../corpora").contains("\nwrite migrated 385 150 corpus_migrated\n"));
-        let mut rng = Rng::new(385);
-        (0..150).map(|_| migrated_case(&mut rng)).collect()
-    }
-
-    #[test]
-    fn the_migrated_corpus_is_short_and_meets_every_refusal() {
-        let cases = migrated_cases();
-        let size: usize = cases.iter().map(|(file, _)| 4 + file.len()).sum();
-        assert!(size < 60_000, "{size}");
-        for number in 2..=12 {
-            let refused = format!("refused {number} at ");
-            let met = cases.iter().filter(|(_, line)| line.starts_with(&refused));
-            assert!(met.count() >= 3, "{number}");
-        }
-    }
-
-    /// A number of the header.
-    fn number(file: &[u8], at: usize) -> usize {
-        usize::from(u16::from_le_bytes([file[at], file[at + 1]]))
-    }
-
-    /// The traits or contact settings for which a file is refused. All before
-    /// the place is good, so the records are where the counts say.
-    fn bad_settings(file: &[u8]) -> Option<u8> {
-        let refusal = validate_legacy(file).err()?;
-        let place = refusal.place;
-        if refusal.number != 7 {
-            return None;
-        }
-        let channels = 88 + CONTACT_SIZE * number(file, 82);
-        let bad = if place < channels {
-            (place - 88) % CONTACT_SIZE == 37
-        } else {
-            (place - channels) % CHANNEL_SIZE == 1
-        };
-        bad.then_some(file[place])
-    }
-
-    /// Cases refused for one reserved bit beside valid ones, for the number 3,
-    /// and for every valid byte of today.
-    #[test]
-    fn the_migrated_corpus_has_bad_traits_and_settings() {
-        let cases = migrated_cases();
-        let met: Vec<u8> = cases.iter().flat_map(|c| bad_settings(&c.0)).collect();
-        for bit in 0..5 {
-            let alone = |b: &u8| matches!(b >> 5, 1..=5) && b & 0x1F == 1 << bit;
-            assert!(met.iter().any(alone), "bit {bit}: {met:?}");
-        }
-        for byte in [0xC0, 0xE0, 1, 2, 4, 5, 6] {
-            assert!(met.contains(&byte), "{byte}: {met:?}");
-        }
-    }
-
-    /// Accepted cases that change contacts, channels, or the last of several
-    /// channels, and such as have channels but change nothing.
-    #[test]
-    fn the_migrated_corpus_changes_contacts_and_channels() {
-        let (mut in_contacts, mut in_channels, mut in_last, mut nowhere) = (0, 0, 0, 0);
-        for (file, line) in migrated_cases() {
-            let mut left = file.clone();
-            let Ok(counts) = migrate(&mut left) else {
-                assert!(left == file && line.starts_with("refused "));
-                continue;
-            };
-            assert_eq!(
-                line,
-                format!("{} file {}", validate_line(Ok(counts)), checksum(&left))
-            );
-            let channels = 88 + CONTACT_SIZE * usize::from(counts.contacts);
-            let changed: Vec<usize> = (0..file.len()).filter(|&n| left[n] != file[n]).collect();
-            in_contacts += usize::from(changed.iter().any(|&n| n < channels));
-            in_channels += usize::from(changed.iter().any(|&n| n >= channels));
-            let last = usize::from(counts.channels.saturating_sub(1));
-            let last = channels + CHANNEL_SIZE * last + 1;
-            in_last += usize::from(counts.channels > 1 && changed.contains(&last));
-            nowhere += usize::from(changed.is_empty() && counts.channels > 0);
-        }
-        let met = [in_contacts, in_channels, in_last, nowhere];
-        assert!(met.iter().all(|&cases| cases >= 3), "{met:?}");
-    }
-
-    /// Accepted cases in which taking M17 contacts for DMR ones changes byte 37,
-    /// be it by its bits or only where it would be good legacy settings.
-    #[test]
-    fn the_migrated_corpus_has_telling_addresses() {
-        let (mut by_bits, mut by_table) = (0, 0);
-        for (file, _) in migrated_cases() {
-            let Ok(counts) = validate_legacy(&file) else {
-                continue;
-            };
-            let contacts = file[88..].chunks(CONTACT_SIZE).take(counts.contacts.into());
-            let bytes: Vec<u8> = contacts.filter(|c| c[32] == 2).map(|c| c[37]).collect();
-            let is_settings = |b: u8| b & 0x1F == 0 && matches!(b >> 5, 1..=5);
-            by_bits += usize::from(bytes.iter().any(|&b| (b >> 6 | b >> 3 & 4) != b));
-            by_table += usize::from(bytes.iter().any(|&b| is_settings(b)));
-        }
-        assert!(by_bits >= 10 && by_table >= 10, "{by_bits} {by_table}");
-    }
-
-    /// Whether a file is refused after traits that are not 0.
-    fn refused_after_traits(file: &[u8]) -> bool {
-        let place = validate_legacy(file).map_or_else(|refusal| refusal.place, |_| 0);
-        let before = &file[..place];
-        if before.len() < 88 {
-            return false;
-        }
-        let first = 88 + CONTACT_SIZE * number(file, 82) + 1;
-        let mut traits = (0..number(file, 84)).map(|n| before.get(first + CHANNEL_SIZE * n));
-        traits.any(|byte| byte.is_some_and(|&byte| byte != 0))
-    }
-
-    /// Refused cases that find a program which migrates what it has read
-    /// before it refuses.
-    #[test]
-    fn the_migrated_corpus_refuses_late() {
-        let cases = migrated_cases();
-        let late = cases.iter().filter(|case| refused_after_traits(&case.0));
-        assert!(late.count() >= 10);
     }
 
     #[test]

@@ -1,7 +1,7 @@
 //! Doubtful material: files, records, texts and buffers that are refused more
 //! often than not, most of them made by spoiling valid ones.
 
-use crate::address::Address;
+use crate::address::{Address, Edition};
 use crate::record::{
     Channel, ChannelInfo, Contact, ContactInfo, CHANNEL_SIZE, CONTACT_SIZE, NO_CONTACT,
 };
@@ -12,6 +12,16 @@ const NO_LIMITS: Limits = Limits {
     contacts: 8,
     channels: 8,
 };
+
+/// The edition that material for `edition` is made by. One time in four it is
+/// the newer where the older is asked for, so that hash addresses occur by both.
+pub fn made_by(rng: &mut Rng, edition: Edition) -> Edition {
+    if rng.one_in(4) {
+        Edition::Newer
+    } else {
+        edition
+    }
+}
 
 // Files.
 
@@ -37,22 +47,37 @@ const LARGE: Shape = Shape {
     entries: 300,
 };
 
-/// A file: valid, spoiled, cut, with bytes after its end, or noise.
-pub fn file(rng: &mut Rng) -> Vec<u8> {
+/// A file: valid, with doubtful addresses, spoiled, cut, with bytes after its
+/// end, or noise.
+pub fn file(rng: &mut Rng, edition: Edition) -> Vec<u8> {
+    let edition = made_by(rng, edition);
     let mut file = match rng.below(400) {
-        0 => full_file(rng),
-        1 => sample::file(rng, LARGE),
+        0 => full_file(rng, edition),
+        1 => sample::file(rng, LARGE, edition),
         2..=5 => Vec::new(),
         6..=21 => return noise(rng),
         22..=37 => return valid_header_and_noise(rng),
-        _ => sample::file(rng, SMALL),
+        _ => sample::file(rng, SMALL, edition),
     };
     if file.is_empty() {
         return file;
     }
     let spans = sample::file_spans(&file);
+    if rng.one_in(6) {
+        let addresses = of_kinds(&spans, &[Kind::Address]);
+        if !addresses.is_empty() {
+            spoil_some(rng, &mut file, &addresses, 2);
+            return file;
+        }
+    }
     damage(rng, &mut file, &spans);
     file
+}
+
+/// The fields of these kinds.
+fn of_kinds(spans: &[Span], kinds: &[Kind]) -> Vec<Span> {
+    let fitting = spans.iter().filter(|span| kinds.contains(&span.kind));
+    fitting.copied().collect()
 }
 
 /// Leaves a valid file as it is, or spoils, cuts or extends it.
@@ -76,38 +101,40 @@ fn damage(rng: &mut Rng, file: &mut Vec<u8>, spans: &[Span]) {
 
 /// A legacy file: valid by the legacy reading, spoiled, cut, with bytes after its
 /// end, in today's order, or noise.
-pub fn legacy_file(rng: &mut Rng) -> Vec<u8> {
+pub fn legacy_file(rng: &mut Rng, edition: Edition) -> Vec<u8> {
+    let edition = made_by(rng, edition);
     match rng.below(200) {
         0 => {
-            let mut file = full_file(rng);
+            let mut file = full_file(rng, edition);
             sample::to_legacy(&mut file);
             damaged_legacy_file(rng, file)
         }
-        1 => old_or_new_file(rng, LARGE),
+        1 => old_or_new_file(rng, LARGE, edition),
         2 | 3 => Vec::new(),
         4..=9 => noise(rng),
         10..=15 => valid_header_and_noise(rng),
-        _ => old_or_new_file(rng, SMALL),
+        _ => old_or_new_file(rng, SMALL, edition),
     }
 }
 
 /// The same, but with few records.
-pub fn short_legacy_file(rng: &mut Rng) -> Vec<u8> {
+pub fn short_legacy_file(rng: &mut Rng, edition: Edition) -> Vec<u8> {
+    let edition = made_by(rng, edition);
     match rng.below(60) {
         0 => Vec::new(),
         1 => noise(rng),
         2 | 3 => valid_header_and_noise(rng),
-        _ => old_or_new_file(rng, FEW),
+        _ => old_or_new_file(rng, FEW, edition),
     }
 }
 
 /// A legacy file, more often than not damaged, or now and then a valid one in
 /// today's order.
-fn old_or_new_file(rng: &mut Rng, most: Shape) -> Vec<u8> {
+fn old_or_new_file(rng: &mut Rng, most: Shape, edition: Edition) -> Vec<u8> {
     if rng.one_in(20) {
-        return sample::file(rng, most);
+        return sample::file(rng, most, edition);
     }
-    let file = sample::legacy_file(rng, most);
+    let file = sample::legacy_file(rng, most, edition);
     damaged_legacy_file(rng, file)
 }
 
@@ -116,11 +143,8 @@ fn old_or_new_file(rng: &mut Rng, most: Shape) -> Vec<u8> {
 fn damaged_legacy_file(rng: &mut Rng, mut file: Vec<u8>) -> Vec<u8> {
     const LATER: [Kind; 4] = [Kind::Address, Kind::ContactIndex, Kind::Offset, Kind::Entry];
     let spans = sample::legacy_file_spans(&file);
-    let of_kinds = |kinds: &[Kind]| -> Vec<Span> {
-        let fitting = spans.iter().filter(|span| kinds.contains(&span.kind));
-        fitting.copied().collect()
-    };
-    let (settings, later) = (of_kinds(&[Kind::LegacySettings]), of_kinds(&LATER));
+    let settings = of_kinds(&spans, &[Kind::LegacySettings]);
+    let later = of_kinds(&spans, &LATER);
     match rng.below(12) {
         0 | 1 => {}
         2..=4 if !settings.is_empty() => spoil_some(rng, &mut file, &settings, 1),
@@ -131,8 +155,8 @@ fn damaged_legacy_file(rng: &mut Rng, mut file: Vec<u8>) -> Vec<u8> {
 }
 
 /// A file of 65,535 or 65,536 bytes: one bank takes up all the bytes left.
-fn full_file(rng: &mut Rng) -> Vec<u8> {
-    let mut file = sample::file(rng, Shape { banks: 0, ..SMALL });
+fn full_file(rng: &mut Rng, edition: Edition) -> Vec<u8> {
+    let mut file = sample::file(rng, Shape { banks: 0, ..SMALL }, edition);
     let channels = usize::from(Limits::of_file(&file).channels);
     if channels == 0 {
         return file;
@@ -161,7 +185,7 @@ fn valid_header_and_noise(rng: &mut Rng) -> Vec<u8> {
         banks: 0,
         entries: 0,
     };
-    let mut file = sample::file(rng, nothing);
+    let mut file = sample::file(rng, nothing, Edition::Older);
     for count in [82, 84, 86] {
         file[count] = rng.pick(&[0, 0, 1, 2]);
     }
@@ -355,28 +379,88 @@ fn spoil_info(rng: &mut Rng, info: &mut ChannelInfo) {
 
 // Addresses.
 
-/// A callsign, with foreign characters, spaces and lengths of all kinds.
+/// Texts of border numbers, and such as are just too long or not good.
+const BORDER_TEXTS: [&[u8]; 8] = [
+    b"A",
+    b".........",
+    b"..........",
+    b"#",
+    b"#........",
+    b"#.........",
+    b"# ",
+    b"##",
+];
+
+/// A text with foreign characters, hash signs, spaces and lengths of all kinds.
 pub fn callsign(rng: &mut Rng) -> Vec<u8> {
-    let length = match rng.below(8) {
-        0 => 0,
-        1 => 10 + rng.below(12),
-        2 => 9,
-        _ => 1 + rng.below(9),
+    if rng.one_in(8) {
+        return rng.pick(&BORDER_TEXTS).to_vec();
+    }
+    let mut text = if rng.below(5) < 2 {
+        text_with_hash(rng)
+    } else {
+        let length = match rng.below(8) {
+            0 => 0,
+            1 => 10 + rng.below(12),
+            2 => 9,
+            _ => 1 + rng.below(9),
+        };
+        characters(rng, length)
     };
-    let alphabet = b"ABCDEFGHIJKLMNOPQRSTUVWXYZ0123456789-/.     ";
-    let mut text: Vec<u8> = (0..length).map(|_| rng.pick(alphabet)).collect();
-    if length > 0 && rng.one_in(3) {
+    let length = text.len();
+    if length > 0 && rng.one_in(4) {
         let place = rng.below(length);
         let near = [
-            b'@', b'[', b':', b',', b'!', b'a', b'z', b'_', 0x00, 0x1F, 0x7F, 0xC0,
+            b'@', b'[', b':', b',', b'!', b'"', b'$', b'a', b'z', b'_', 0x00, 0x1F, 0x7F, 0xA3,
+            0xC0,
         ];
         text[place] = rng.pick(&near);
     }
-    if length > 0 && rng.one_in(5) {
+    if length > 0 && rng.one_in(6) {
         text[length - 1] = b' ';
     }
     if rng.one_in(30) {
         text.fill(b' ');
+    }
+    text
+}
+
+/// Characters that a callsign may have, spaces more often than others.
+fn characters(rng: &mut Rng, length: usize) -> Vec<u8> {
+    let alphabet = b"ABCDEFGHIJKLMNOPQRSTUVWXYZ0123456789-/.     ";
+    (0..length).map(|_| rng.pick(alphabet)).collect()
+}
+
+/// A text with hash signs: alone, first, elsewhere, doubled or before spaces.
+fn text_with_hash(rng: &mut Rng) -> Vec<u8> {
+    const HASH: u8 = b'#';
+    let length = match rng.below(6) {
+        0 => 8,
+        1 => 9,
+        2 => 10,
+        _ => 1 + rng.below(9),
+    };
+    let mut text = characters(rng, length);
+    match rng.below(12) {
+        0 => return vec![HASH],
+        1 | 2 => text[rng.below(length)] = HASH,
+        3 => text[length - 1] = HASH,
+        4 => {
+            let at = rng.below(length);
+            text[at..length.min(at + 2)].fill(HASH);
+        }
+        5 => {
+            text.resize(length.max(2), b'A');
+            text[..2].fill(HASH);
+        }
+        6 => {
+            // Spaces up to the end, or up to the last character.
+            let last = rng.pick(&[b' ', text[length - 1]]);
+            text.fill(b' ');
+            text[length - 1] = last;
+            text[0] = HASH;
+        }
+        _ => text[0] = HASH,
     }
     text
 }

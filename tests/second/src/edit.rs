@@ -7,6 +7,7 @@
 use std::fmt;
 use std::ops::Range;
 
+use crate::address::Edition;
 use crate::codeplug::{Bank, Codeplug, EMPTY_BANK_SIZE, HEADER_SIZE};
 use crate::history::{self, Entry};
 use crate::record::{ChannelInfo, CHANNEL_SIZE, CONTACT_SIZE, TEXT_SIZE};
@@ -50,10 +51,11 @@ pub fn edit(
     history: &mut [u8],
     history_length: usize,
     edit: &Edit,
+    edition: Edition,
 ) -> Result<Answer, Refusal> {
-    let (old, codeplug, entries) = open(room, length, history, history_length)?;
+    let (old, codeplug, entries) = open(room, length, history, history_length, edition)?;
     let new = apply(old, &codeplug, edit)?;
-    Codeplug::read(&new)?;
+    Codeplug::read(&new, edition)?;
     ensure(new.len() <= room.len(), Reason::RoomFull, 0)?;
     let mut kept = Entry::between(old, &new).to_bytes();
     ensure(kept.len() <= history.len(), Reason::HistoryFull, 0)?;
@@ -82,14 +84,16 @@ pub fn undo(
     length: usize,
     history: &mut [u8],
     history_length: usize,
+    edition: Edition,
 ) -> Result<Answer, Refusal> {
-    let (file, _, entries) = open(room, length, history, history_length)?;
+    let (file, _, entries) = open(room, length, history, history_length, edition)?;
     let (top, rest) = entries
         .split_first()
         .ok_or(Refusal::from(Reason::HistoryEmpty))?;
+    let fits = |file: &Vec<u8>| file.len() <= room.len() && Codeplug::read(file, edition).is_ok();
     let restored = top
         .take_back(file)
-        .filter(|restored| restored.len() <= room.len() && Codeplug::read(restored).is_ok())
+        .filter(fits)
         .ok_or(Refusal::from(Reason::EntryDoesNotFit))?;
     let kept: Vec<u8> = rest.iter().flat_map(Entry::to_bytes).collect();
 
@@ -108,11 +112,12 @@ fn open<'a>(
     length: usize,
     history: &[u8],
     history_length: usize,
+    edition: Edition,
 ) -> Result<(&'a [u8], Codeplug, Vec<Entry>), Refusal> {
     let too_long = Refusal::from(Reason::StatedLength);
     let file = room.get(..length).ok_or(too_long)?;
     let history = history.get(..history_length).ok_or(too_long)?;
-    let codeplug = Codeplug::read(file)?;
+    let codeplug = Codeplug::read(file, edition)?;
     let entries = history::parse(history)?;
     Ok((file, codeplug, entries))
 }

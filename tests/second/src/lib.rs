@@ -1,9 +1,10 @@
 //! A plain second implementation of the OBCF codeplug editor.
 //!
 //! "The paper" in the comments is document 01 (the codeplug editor and its
-//! rules) as request [5] of document 02 changes it, read with its two sources:
-//! 000 for the OBCF layout and 001 for M17 addresses. This crate exists to be
-//! compared with another implementation, so it favours plainness over speed.
+//! rules) as requests [5] and [10] of document 02 change it, read with its two
+//! sources: 000 for the OBCF layout and 001 for M17 addresses. This crate exists
+//! to be compared with another implementation, so it favours plainness over
+//! speed.
 
 pub mod address;
 pub mod book;
@@ -21,6 +22,7 @@ pub mod sample;
 pub mod script;
 pub mod tone;
 
+pub use address::Edition;
 pub use codeplug::{validate, Codeplug, Counts};
 pub use legacy::{migrate, validate_legacy};
 pub use refusal::{Reason, Refusal};

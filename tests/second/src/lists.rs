@@ -1,7 +1,9 @@
 //! Random lists of calls: edits and undos on the same two buffers, whose sizes
 //! are tiny, exact or ample for them.
 
+use crate::address::{Edition, BORDERS};
 use crate::book::Call;
+use crate::codeplug::HEADER_SIZE;
 use crate::doubtful;
 use crate::edit::{edit, undo, Answer, Edit};
 use crate::history::Entry;
@@ -9,20 +11,22 @@ use crate::record::{CHANNEL_SIZE, CONTACT_SIZE, NO_CONTACT, TEXT_SIZE};
 use crate::sample::{self, Limits, Rng, Shape};
 use crate::{validate, Codeplug, Refusal};
 
-/// Both buffers as they are lent, and the lengths that go with them.
+/// Both buffers as they are lent, the lengths that go with them, and the edition
+/// that every call goes by.
 #[derive(Clone)]
 pub struct Lent {
     pub room: Vec<u8>,
     pub length: u64,
     pub history: Vec<u8>,
     pub history_length: u64,
+    pub edition: Edition,
 }
 
 impl Lent {
     /// The codeplug, where it is valid.
     pub fn file(&self) -> Option<&[u8]> {
         let file = self.room.get(..usize::try_from(self.length).ok()?)?;
-        validate(file).is_ok().then_some(file)
+        validate(file, self.edition).is_ok().then_some(file)
     }
 
     /// Makes a call; the next call passes the lengths that this one answers.
@@ -30,9 +34,10 @@ impl Lent {
         let length = self.length as usize;
         let history_length = self.history_length as usize;
         let (room, history) = (&mut self.room, &mut self.history);
+        let edition = self.edition;
         let answer = match call {
-            Call::Edit(what) => edit(room, length, history, history_length, what),
-            Call::Undo => undo(room, length, history, history_length),
+            Call::Edit(what) => edit(room, length, history, history_length, what, edition),
+            Call::Undo => undo(room, length, history, history_length, edition),
         }?;
         self.length = answer.length as u64;
         self.history_length = answer.history_length as u64;
@@ -40,30 +45,18 @@ impl Lent {
     }
 }
 
-/// Buffers and a list of calls on them.
-pub fn list(rng: &mut Rng) -> (Lent, Vec<Call>) {
-    let opening = opening(rng);
+/// Buffers and a list of calls on them. By the older edition some are made for
+/// the newer, and have hash addresses in the opening file or in records.
+pub fn list(rng: &mut Rng, edition: Edition) -> (Lent, Vec<Call>) {
+    let made_by = doubtful::made_by(rng, edition);
+    let opening = opening(rng, made_by);
     let count = match rng.below(12) {
         0..=5 => 1 + rng.below(8),
         6..=10 => 1 + rng.below(20),
         _ => 1 + rng.below(60),
     };
-    let mut ample = Lent {
-        length: opening.len() as u64,
-        room: [opening.clone(), vec![0; 10_000]].concat(),
-        history: vec![0; 60_000],
-        history_length: 0,
-    };
-    let (mut longest, mut longest_history) = (opening.len(), 0);
-    let mut calls = Vec::new();
-    for _ in 0..count {
-        let call = random_call(rng, ample.file().expect("a valid file stays valid"));
-        let _ = ample.call(&call);
-        longest = longest.max(ample.length as usize);
-        longest_history = longest_history.max(ample.history_length as usize);
-        calls.push(call);
-    }
-    let mut lent = buffers(rng, &opening, longest, longest_history);
+    let (mut calls, longest) = calls_with_space(rng, &opening, count, made_by);
+    let mut lent = buffers(rng, &opening, longest, edition);
     match rng.below(12) {
         0 => disturb(rng, &mut lent),
         1 | 2 => {
@@ -76,6 +69,34 @@ pub fn list(rng: &mut Rng) -> (Lent, Vec<Call>) {
         calls = calls_that_fit(rng, &mut lent.clone(), count);
     }
     (lent, calls)
+}
+
+/// Calls made for a valid file in ample buffers, and how long the file and the
+/// history get.
+fn calls_with_space(
+    rng: &mut Rng,
+    opening: &[u8],
+    count: usize,
+    edition: Edition,
+) -> (Vec<Call>, (usize, usize)) {
+    let mut ample = Lent {
+        length: opening.len() as u64,
+        room: [opening.to_vec(), vec![0; 10_000]].concat(),
+        history: vec![0; 60_000],
+        history_length: 0,
+        edition,
+    };
+    let (mut longest, mut longest_history) = (opening.len(), 0);
+    let mut calls = Vec::new();
+    for _ in 0..count {
+        let file = ample.file().expect("a valid file stays valid");
+        let call = random_call(rng, file, edition);
+        let _ = ample.call(&call);
+        longest = longest.max(ample.length as usize);
+        longest_history = longest_history.max(ample.history_length as usize);
+        calls.push(call);
+    }
+    (calls, (longest, longest_history))
 }
 
 // Opening files.
@@ -99,16 +120,16 @@ const LARGER: Shape = Shape {
     entries: 60,
 };
 
-fn opening(rng: &mut Rng) -> Vec<u8> {
+fn opening(rng: &mut Rng, edition: Edition) -> Vec<u8> {
     match rng.below(120) {
-        0 => sample::file(rng, LARGER),
-        1 | 2 => many_contacts(rng),
+        0 => sample::file(rng, LARGER, edition),
+        1 | 2 => many_contacts(rng, edition),
         3 => many_channels(rng),
         4 => full_bank(rng),
-        5..=8 => sample::file(rng, SMALL),
-        9..=40 => sample::file(rng, FEW),
-        41..=60 => alike(rng, SMALL),
-        _ => alike(rng, FEW),
+        5..=8 => sample::file(rng, SMALL, edition),
+        9..=40 => sample::file(rng, FEW, edition),
+        41..=60 => alike(rng, SMALL, edition),
+        _ => alike(rng, FEW, edition),
     }
 }
 
@@ -153,9 +174,9 @@ pub fn bank_of(name: &[u8], entries: &[u16]) -> Vec<u8> {
 }
 
 /// A file that repeats one or two records of each kind.
-fn alike(rng: &mut Rng, most: Shape) -> Vec<u8> {
+fn alike(rng: &mut Rng, most: Shape, edition: Edition) -> Vec<u8> {
     let kinds = 1 + rng.below(2);
-    let some: Vec<Vec<u8>> = (0..kinds).map(|_| plain_contact(rng)).collect();
+    let some: Vec<Vec<u8>> = (0..kinds).map(|_| plain_contact(rng, edition)).collect();
     let contacts: Vec<Vec<u8>> = repeated(rng, &some, most.contacts);
     let modes = modes_of(contacts.iter().map(Vec::as_slice));
     let some: Vec<Vec<u8>> = (0..kinds).map(|_| plain_channel(rng, &modes)).collect();
@@ -198,14 +219,35 @@ fn plain_text(rng: &mut Rng) -> Vec<u8> {
     }
 }
 
-fn plain_contact(rng: &mut Rng) -> Vec<u8> {
+/// A valid contact, of zeros as far as its mode allows or any other.
+fn plain_contact(rng: &mut Rng, edition: Edition) -> Vec<u8> {
     if rng.flag() {
-        return sample::contact_bytes(&sample::contact(rng));
+        return sample::contact_bytes(&sample::contact(rng, edition), edition);
+    }
+    if rng.flag() {
+        return contact_with(sample::callsign_number(rng, edition));
     }
     let mut record = vec![0; CONTACT_SIZE];
-    record[32] = 1 + rng.below(2) as u8;
-    record[38] = record[32] - 1;
+    record[32] = 1;
     record
+}
+
+/// A nameless M17 contact with this address, valid or not.
+fn contact_with(number: u64) -> Vec<u8> {
+    let mut record = vec![0; CONTACT_SIZE];
+    record[32] = 2;
+    record[33..].copy_from_slice(&number.to_be_bytes()[2..]);
+    record
+}
+
+/// A contact for an edit: as often as not a hash address or one at a border,
+/// whatever the edition.
+fn new_contact(rng: &mut Rng, edition: Edition) -> Vec<u8> {
+    match rng.below(6) {
+        0 | 1 => contact_with(sample::hash_number(rng)),
+        2 => contact_with(rng.pick(&BORDERS)),
+        _ => plain_contact(rng, edition),
+    }
 }
 
 fn plain_channel(rng: &mut Rng, modes: &[u8]) -> Vec<u8> {
@@ -250,8 +292,8 @@ fn contact_named(rng: &mut Rng, modes: &[u8], mode: u8) -> Option<u16> {
 }
 
 /// Contact indexes around 256, where the high byte changes.
-fn many_contacts(rng: &mut Rng) -> Vec<u8> {
-    let contact = plain_contact(rng);
+fn many_contacts(rng: &mut Rng, edition: Edition) -> Vec<u8> {
+    let contact = plain_contact(rng, edition);
     let mode = contact[TEXT_SIZE];
     let contacts = vec![contact; 256 + rng.below(4)];
     let channels: Vec<Vec<u8>> = (0..1 + rng.below(4))
@@ -295,8 +337,10 @@ fn full_bank(rng: &mut Rng) -> Vec<u8> {
 
 // Buffers.
 
-/// Buffers with no, little, exact or ample space for a list of calls.
-fn buffers(rng: &mut Rng, opening: &[u8], longest: usize, longest_history: usize) -> Lent {
+/// Buffers with no, little, exact or ample space for a list of calls that make
+/// the file and the history this long.
+fn buffers(rng: &mut Rng, opening: &[u8], longest: (usize, usize), edition: Edition) -> Lent {
+    let (longest, longest_history) = longest;
     let exact = longest - opening.len();
     let spare = match rng.below(8) {
         0 => 0,
@@ -320,6 +364,7 @@ fn buffers(rng: &mut Rng, opening: &[u8], longest: usize, longest_history: usize
         room: [opening.to_vec(), fill(rng, spare)].concat(),
         history: fill(rng, size),
         history_length: 0,
+        edition,
     }
 }
 
@@ -369,9 +414,9 @@ fn other_history(rng: &mut Rng, lent: &mut Lent) {
     let mut file = lent.room[..lent.length as usize].to_vec();
     let mut history = Vec::new();
     for _ in 0..1 + rng.below(4) {
-        let entry = any_entry(rng, &file, lent.room.len());
+        let entry = any_entry(rng, &file, lent.room.len(), lent.edition);
         if let Some(older) = entry.take_back(&file) {
-            if validate(&older).is_ok() {
+            if validate(&older, lent.edition).is_ok() {
                 file = older;
             }
         }
@@ -393,7 +438,7 @@ fn other_history(rng: &mut Rng, lent: &mut Lent) {
     }
 }
 
-fn any_entry(rng: &mut Rng, file: &[u8], room: usize) -> Entry {
+fn any_entry(rng: &mut Rng, file: &[u8], room: usize, edition: Edition) -> Entry {
     let length = file.len();
     let start = match rng.below(6) {
         0 => length,
@@ -415,7 +460,7 @@ fn any_entry(rng: &mut Rng, file: &[u8], room: usize) -> Entry {
         old: Vec::new(),
     };
     match rng.below(10) {
-        0..=2 => Entry::between(&other_file(rng, file), file),
+        0..=2 => Entry::between(&other_file(rng, file, edition), file),
         3 | 4 if start + new_length <= length => Entry {
             // The same bytes again.
             old: file[start..start + new_length].to_vec(),
@@ -440,16 +485,41 @@ fn any_entry(rng: &mut Rng, file: &[u8], room: usize) -> Entry {
     }
 }
 
-/// The file after some calls; the file itself where it is invalid.
-fn other_file(rng: &mut Rng, file: &[u8]) -> Vec<u8> {
+/// The file after some calls, or with another address in it; the file itself
+/// where it is invalid.
+fn other_file(rng: &mut Rng, file: &[u8], edition: Edition) -> Vec<u8> {
+    if rng.flag() {
+        if let Some(other) = other_address(rng, file, edition) {
+            return other;
+        }
+    }
     let mut lent = Lent {
         length: file.len() as u64,
         room: [file.to_vec(), vec![0; 200]].concat(),
         history: vec![0; 2 * file.len() + 1_000],
         history_length: 0,
+        edition: doubtful::made_by(rng, edition),
     };
     calls_that_fit(rng, &mut lent, 4);
     lent.room[..lent.length as usize].to_vec()
+}
+
+/// A valid file with a hash address, or one at a border, in one of its contacts,
+/// whatever the edition; `None` where it has no contacts or is invalid.
+fn other_address(rng: &mut Rng, file: &[u8], edition: Edition) -> Option<Vec<u8>> {
+    let contacts = validate(file, edition).ok()?.contacts;
+    if contacts == 0 {
+        return None;
+    }
+    let number = match rng.below(3) {
+        0 => rng.pick(&BORDERS),
+        _ => sample::hash_number(rng),
+    };
+    // Its name stays.
+    let at = HEADER_SIZE + CONTACT_SIZE * rng.below(contacts.into()) + TEXT_SIZE;
+    let mut other = file.to_vec();
+    other[at..at + 7].copy_from_slice(&contact_with(number)[TEXT_SIZE..]);
+    Some(other)
 }
 
 // Calls.
@@ -460,9 +530,9 @@ fn calls_that_fit(rng: &mut Rng, lent: &mut Lent, count: usize) -> Vec<Call> {
         .map(|_| {
             let file = match lent.file() {
                 Some(file) => file.to_vec(),
-                None => sample::file(rng, FEW),
+                None => sample::file(rng, FEW, lent.edition),
             };
-            let call = random_call(rng, &file);
+            let call = random_call(rng, &file, lent.edition);
             let _ = lent.call(&call);
             call
         })
@@ -470,11 +540,11 @@ fn calls_that_fit(rng: &mut Rng, lent: &mut Lent, count: usize) -> Vec<Call> {
 }
 
 /// A call that makes sense for this file, more often than not.
-pub fn random_call(rng: &mut Rng, file: &[u8]) -> Call {
+pub fn random_call(rng: &mut Rng, file: &[u8], edition: Edition) -> Call {
     if rng.one_in(4) {
         return Call::Undo;
     }
-    let codeplug = Codeplug::read(file).expect("a valid file");
+    let codeplug = Codeplug::read(file, edition).expect("a valid file");
     let mut kind = match rng.below(60) {
         0 => rng.pick(&[0, 13, 14, 255, 256 + 1, (1 << 32) + 1, u64::MAX]),
         _ => 1 + rng.below(12) as u64,
@@ -500,7 +570,7 @@ pub fn random_call(rng: &mut Rng, file: &[u8]) -> Call {
     } else if rng.one_in(40) {
         second = rng.pick(&[1, 65_536, 1 << 32, usize::MAX]);
     }
-    let mut record = record(rng, file, kind, first);
+    let mut record = record(rng, file, kind, first, edition);
     spoil_record(rng, file, kind, &mut record);
     Call::Edit(Edit {
         kind,
@@ -527,15 +597,15 @@ fn place(rng: &mut Rng, count: usize, grows: bool) -> usize {
 }
 
 /// The record of an edit: often one that the file already has.
-fn record(rng: &mut Rng, file: &[u8], kind: u64, first: usize) -> Vec<u8> {
-    let codeplug = Codeplug::read(file).expect("a valid file");
+fn record(rng: &mut Rng, file: &[u8], kind: u64, first: usize, edition: Edition) -> Vec<u8> {
+    let codeplug = Codeplug::read(file, edition).expect("a valid file");
     let contacts = 88..88 + CONTACT_SIZE * codeplug.contacts.len();
     let channels = contacts.end..contacts.end + CHANNEL_SIZE * codeplug.channels.len();
     let modes = modes_of(file[contacts.clone()].chunks(CONTACT_SIZE));
     match kind {
         1 | 3 => match again(rng, &file[contacts], CONTACT_SIZE, first) {
             Some(record) => record,
-            None => plain_contact(rng),
+            None => new_contact(rng, edition),
         },
         4 | 6 => match again(rng, &file[channels], CHANNEL_SIZE, first) {
             Some(record) => record,

@@ -5,6 +5,8 @@
 
 mod calls;
 mod corpus;
+#[cfg(test)]
+mod stored;
 
 use std::error::Error;
 use std::fs::{self, File};
@@ -15,13 +17,13 @@ use obcf_second::codeplug::{write_empty, HEADER_SIZE};
 use obcf_second::play::Player;
 use obcf_second::sample::Rng;
 use obcf_second::script::{self, Malformed};
-use obcf_second::{migrate, validate, validate_legacy, Counts, Reason, Refusal, LONGEST};
+use obcf_second::{migrate, validate, validate_legacy, Counts, Edition, Reason, Refusal, LONGEST};
 
-const USAGE: &str = "usage: second validate < FILE
-       second validate-legacy < FILE
-       second migrate < FILE > OUT
+const USAGE: &str = "usage: second validate [older|newer] < FILE
+       second validate-legacy [older|newer] < FILE
+       second migrate [older|newer] < FILE > OUT
        second corpus files|contacts|channels|addresses|mixed|read|channels-read|written|calls|migrated SEED COUNT OUT.bin OUT.txt
-       second play OPEN|empty OUT < SCRIPT";
+       second play OPEN|empty OUT [older|newer] < SCRIPT";
 
 /// `second validate` and `second validate-legacy` read at most this many bytes
 /// (paper: Examples).
@@ -33,19 +35,24 @@ fn main() -> ExitCode {
     let arguments: Vec<String> = std::env::args().skip(1).collect();
     let arguments: Vec<&str> = arguments.iter().map(String::as_str).collect();
     let done = match arguments[..] {
-        ["validate"] => validate_input(validate),
-        ["validate-legacy"] => validate_input(validate_legacy),
-        ["migrate"] => migrate_input(),
+        ["validate", ref last @ ..] => by_edition(last, |e| validate_input(validate, e)),
+        ["validate-legacy", ref last @ ..] => {
+            by_edition(last, |e| validate_input(validate_legacy, e))
+        }
+        ["migrate", ref last @ ..] => by_edition(last, migrate_input),
         ["corpus", kind, seed, count, bin, txt] => {
             match (corpus::generator(kind), seed.parse(), count.parse()) {
                 (Some(generate), Ok(seed), Ok(count)) => {
-                    write_corpus(generate, seed, count, bin, txt)
+                    Some(write_corpus(generate, seed, count, bin, txt))
                 }
-                _ => return usage(),
+                _ => None,
             }
         }
-        ["play", open, out] => play(open, out),
-        _ => return usage(),
+        ["play", open, out, ref last @ ..] => by_edition(last, |e| play(open, out, e)),
+        _ => None,
+    };
+    let Some(done) = done else {
+        return usage();
     };
     match done {
         Ok(()) => ExitCode::SUCCESS,
@@ -62,17 +69,30 @@ fn main() -> ExitCode {
     }
 }
 
+/// Runs a command by the edition that its last argument names, or by the older
+/// where there is none; `None` where the argument is anything else.
+fn by_edition(last: &[&str], command: impl FnOnce(Edition) -> Done) -> Option<Done> {
+    match last {
+        [] | ["older"] => Some(command(Edition::Older)),
+        ["newer"] => Some(command(Edition::Newer)),
+        _ => None,
+    }
+}
+
 fn usage() -> ExitCode {
     eprintln!("{USAGE}");
     ExitCode::from(2)
 }
 
-fn validate_input(validate: fn(&[u8]) -> Result<Counts, Refusal>) -> Done {
+fn validate_input(
+    validate: fn(&[u8], Edition) -> Result<Counts, Refusal>,
+    edition: Edition,
+) -> Done {
     let input = input(MOST_INPUT)?;
     let answer = if input.len() > MOST_INPUT {
         Err(Refusal::from(Reason::TooLong))
     } else {
-        validate(&input)
+        validate(&input, edition)
     };
     writeln!(io::stdout(), "{}", corpus::validate_line(answer))?;
     Ok(())
@@ -80,9 +100,9 @@ fn validate_input(validate: fn(&[u8]) -> Result<Counts, Refusal>) -> Done {
 
 /// Migrates a file of any length that a codeplug may have. Nothing is written
 /// where it is refused.
-fn migrate_input() -> Done {
+fn migrate_input(edition: Edition) -> Done {
     let mut file = input(LONGEST)?;
-    migrate(&mut file)?;
+    migrate(&mut file, edition)?;
     io::stdout().write_all(&file)?;
     Ok(())
 }
@@ -120,12 +140,13 @@ fn write_corpus(
 
 /// Plays the script on standard input. All of it is read before the first call
 /// is made.
-fn play(open: &str, out: &str) -> Done {
+fn play(open: &str, out: &str, edition: Edition) -> Done {
     let mut input = Vec::new();
     io::stdin().lock().read_to_end(&mut input)?;
-    let script = script::read(&input)?;
+    let script = script::read(&input, edition)?;
     let opening = opening(open).map_err(|error| format!("{open}: {error}"))?;
-    let mut player = Player::open(&opening).map_err(|refusal| format!("{open}: {refusal}"))?;
+    let player = Player::open(&opening, edition);
+    let mut player = player.map_err(|refusal| format!("{open}: {refusal}"))?;
     player.play(&script, &mut io::stdout().lock())?;
     fs::write(out, player.file()).map_err(|error| format!("{out}: {error}"))?;
     Ok(())

@@ -3,6 +3,7 @@
 
 use std::io::{self, Write};
 
+use crate::address::Edition;
 use crate::book::{Book, Call};
 use crate::edit::Answer;
 use crate::lists::Lent;
@@ -20,9 +21,10 @@ pub struct Player {
 }
 
 impl Player {
-    /// Opens a codeplug with an empty history, unless reading it refuses.
-    pub fn open(opening: &[u8]) -> Result<Player, Refusal> {
-        validate(opening)?;
+    /// Opens a codeplug with an empty history, unless reading it refuses. Every
+    /// call goes by the same edition.
+    pub fn open(opening: &[u8], edition: Edition) -> Result<Player, Refusal> {
+        validate(opening, edition)?;
         let mut room = opening.to_vec();
         room.resize(ROOM_SIZE, 0);
         Ok(Player {
@@ -31,8 +33,9 @@ impl Player {
                 length: opening.len() as u64,
                 history: vec![0; HISTORY_SIZE],
                 history_length: 0,
+                edition,
             },
-            book: Book::open(opening.to_vec(), ROOM_SIZE, HISTORY_SIZE),
+            book: Book::open(opening.to_vec(), ROOM_SIZE, HISTORY_SIZE, edition),
         })
     }
 

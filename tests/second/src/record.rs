@@ -1,6 +1,6 @@
 //! Contact and channel records, and text fields (paper: The file).
 
-use crate::address::Address;
+use crate::address::{Address, Edition};
 use crate::cursor::{is_text_byte, Cursor};
 use crate::refusal::{ensure, Reason, Refusal};
 use crate::tone::Tone;
@@ -171,19 +171,20 @@ fn valid_latitude_ten_thousandths(floor: i8, n: u16) -> bool {
 impl Contact {
     /// Reads one record from its own bytes. Bytes past the record are not
     /// looked at.
-    pub fn read(bytes: &[u8]) -> Result<Contact, Refusal> {
-        Contact::read_at(&mut Cursor::new(bytes), split_settings)
+    pub fn read(bytes: &[u8], edition: Edition) -> Result<Contact, Refusal> {
+        Contact::read_at(&mut Cursor::new(bytes), split_settings, edition)
     }
 
-    pub(crate) fn read_at(cursor: &mut Cursor, split: Split) -> Result<Contact, Refusal> {
+    pub(crate) fn read_at(
+        cursor: &mut Cursor,
+        split: Split,
+        edition: Edition,
+    ) -> Result<Contact, Refusal> {
         let name = cursor.text()?;
         let mode = cursor.u8()?.convert(Reason::Mode, Mode::of_contact)?;
         let info = if mode == Mode::M17 {
-            ContactInfo::M17(
-                cursor
-                    .array()?
-                    .convert(Reason::Address, Address::from_bytes)?,
-            )
+            let read = |bytes| Address::from_bytes(bytes, edition);
+            ContactInfo::M17(cursor.array()?.convert(Reason::Address, read)?)
         } else {
             let id = cursor.u32()?.value;
             let (contact_type, rx_tone) = cursor.u8()?.convert(Reason::Value, split)?;
@@ -199,7 +200,7 @@ impl Contact {
 
     /// Writes the record over the first 39 bytes of `out`: 25, then the
     /// fields in order.
-    pub fn write(&self, out: &mut [u8]) -> Result<(), Refusal> {
+    pub fn write(&self, out: &mut [u8], edition: Edition) -> Result<(), Refusal> {
         let out = out
             .first_chunk_mut::<CONTACT_SIZE>()
             .ok_or(Refusal::from(Reason::OutputBuffer))?;
@@ -208,7 +209,7 @@ impl Contact {
         record.put(32, [self.info.mode() as u8]);
         match self.info {
             ContactInfo::M17(address) => {
-                record.put_valid(33, address.to_bytes(), Reason::Address)?;
+                record.put_valid(33, address.to_bytes(edition), Reason::Address)?;
             }
             ContactInfo::Dmr {
                 id,

@@ -2,7 +2,7 @@
 //!
 //! Everything follows from the generator's seed.
 
-use crate::address::{Address, BROADCAST, LAST_CALLSIGN};
+use crate::address::{Address, Edition, BORDERS, BROADCAST, FIRST_HASH, LAST_CALLSIGN, LAST_HASH};
 use crate::codeplug::{EMPTY_BANK_SIZE, HEADER_SIZE};
 use crate::record::*;
 use crate::tone::Tone;
@@ -84,8 +84,13 @@ pub fn padded_text(rng: &mut Rng) -> Vec<u8> {
     field
 }
 
-/// A valid callsign number, short ones as often as long ones.
-pub fn callsign_number(rng: &mut Rng) -> u64 {
+/// The valid number of a text, short ones as often as long ones. By the newer
+/// edition four in nine are hash addresses, which makes it one M17 contact in
+/// three.
+pub fn callsign_number(rng: &mut Rng, edition: Edition) -> u64 {
+    if edition == Edition::Newer && rng.below(9) < 4 {
+        return hash_number(rng);
+    }
     match rng.below(8) {
         0 => 1,
         1 => LAST_CALLSIGN,
@@ -96,28 +101,40 @@ pub fn callsign_number(rng: &mut Rng) -> u64 {
     }
 }
 
-/// An address number at or near a limit, or any other.
-pub fn doubtful_number(rng: &mut Rng) -> u64 {
-    let between = LAST_CALLSIGN + 1 + rng.number() % (BROADCAST - LAST_CALLSIGN - 1);
-    let any = rng.number();
-    rng.pick(&[
-        0,
-        1,
-        LAST_CALLSIGN,
-        LAST_CALLSIGN + 1,
-        BROADCAST - 1,
-        BROADCAST,
-        BROADCAST + 1,
-        BROADCAST + 2,
-        u64::MAX,
-        between,
-        any & BROADCAST,
-        any,
-    ])
+/// A hash address, short ones as often as long ones.
+pub fn hash_number(rng: &mut Rng) -> u64 {
+    match rng.below(8) {
+        0 | 1 => FIRST_HASH,
+        2 => LAST_HASH,
+        _ => {
+            let characters = 1 + rng.below(8) as u32;
+            FIRST_HASH + rng.number() % 40u64.pow(characters)
+        }
+    }
 }
 
-/// A valid contact.
-pub fn contact(rng: &mut Rng) -> Contact {
+/// An address number at or near a border, a hash address, or any other.
+pub fn doubtful_number(rng: &mut Rng) -> u64 {
+    let border = rng.pick(&BORDERS);
+    let hash = hash_number(rng);
+    let past = LAST_HASH + 1 + rng.number() % (BROADCAST - LAST_HASH - 1);
+    let any = rng.number();
+    match rng.below(16) {
+        0..=5 => border,
+        6 => border + 1,
+        7 => border.saturating_sub(1),
+        8..=10 => hash,
+        11 => past,
+        12 => any & BROADCAST,
+        13 => any,
+        // Numbers whose low 48 bits alone are valid or doubtful.
+        14 => rng.pick(&[border, hash]) + BROADCAST + 1,
+        _ => u64::MAX,
+    }
+}
+
+/// A contact that is valid by the edition.
+pub fn contact(rng: &mut Rng, edition: Edition) -> Contact {
     let name = text(rng);
     let info = match rng.below(8) {
         0..=3 => ContactInfo::Dmr {
@@ -126,7 +143,7 @@ pub fn contact(rng: &mut Rng) -> Contact {
             rx_tone: rng.flag(),
         },
         4 => ContactInfo::M17(Address::Broadcast),
-        _ => ContactInfo::M17(Address::Callsign(callsign_number(rng))),
+        _ => ContactInfo::M17(Address::Callsign(callsign_number(rng, edition))),
     };
     Contact { name, info }
 }
@@ -208,10 +225,10 @@ pub struct Shape {
     pub entries: usize,
 }
 
-/// A valid file.
-pub fn file(rng: &mut Rng, most: Shape) -> Vec<u8> {
+/// A file that is valid by the edition.
+pub fn file(rng: &mut Rng, most: Shape, edition: Edition) -> Vec<u8> {
     let contacts: Vec<Contact> = (0..count(rng, most.contacts))
-        .map(|_| contact(rng))
+        .map(|_| contact(rng, edition))
         .collect();
     let modes: Vec<Mode> = contacts.iter().map(|contact| contact.info.mode()).collect();
     let channels: Vec<Channel> = (0..count(rng, most.channels))
@@ -229,7 +246,7 @@ pub fn file(rng: &mut Rng, most: Shape) -> Vec<u8> {
         file.extend((count as u16).to_le_bytes());
     }
     for contact in contacts {
-        file.extend(contact_bytes(&contact));
+        file.extend(contact_bytes(&contact, edition));
     }
     for channel in channels {
         file.extend(channel_bytes(&channel));
@@ -258,10 +275,10 @@ pub const SETTINGS: [(u8, u8); 6] = [
     (0x06, 0xA0),
 ];
 
-/// A legacy file: valid by the legacy reading. Where all traits and contact
-/// settings are zero, it is valid by today's too.
-pub fn legacy_file(rng: &mut Rng, most: Shape) -> Vec<u8> {
-    let mut file = file(rng, most);
+/// A legacy file: valid by the legacy reading and the edition. Where all traits
+/// and contact settings are zero, it is valid by today's reading too.
+pub fn legacy_file(rng: &mut Rng, most: Shape, edition: Edition) -> Vec<u8> {
+    let mut file = file(rng, most, edition);
     if rng.one_in(6) {
         clear_settings(&mut file);
     } else {
@@ -294,9 +311,9 @@ pub fn settings_places(file: &[u8]) -> Vec<usize> {
         .collect()
 }
 
-/// Gives some callsigns, at byte 37 of the contact, what would be legacy
-/// settings in a DMR contact. The last callsign has 0xFF there and after it, so
-/// none gets too large.
+/// Gives some addresses, at byte 37 of the contact, what would be legacy
+/// settings in a DMR contact. The borders of hash addresses are multiples of
+/// 2^24, so none crosses one.
 fn put_settings_into_addresses(rng: &mut Rng, file: &mut [u8]) {
     for span in file_spans(file) {
         if span.kind == Kind::Address && rng.flag() {
@@ -338,10 +355,11 @@ fn bank_entries(rng: &mut Rng, channels: usize, most: usize) -> Vec<u16> {
         .collect()
 }
 
-/// The record of a valid contact.
-pub fn contact_bytes(contact: &Contact) -> Vec<u8> {
+/// The record of a contact that is valid by the edition.
+pub fn contact_bytes(contact: &Contact, edition: Edition) -> Vec<u8> {
     let mut record = vec![0; CONTACT_SIZE];
-    contact.write(&mut record).expect("a valid contact");
+    let written = contact.write(&mut record, edition);
+    written.expect("a valid contact");
     record
 }
 

@@ -4,7 +4,7 @@
 use std::fmt;
 use std::str::FromStr;
 
-use crate::address::{self, Address};
+use crate::address::{self, Address, Edition};
 use crate::book::Call;
 use crate::edit::Edit;
 use crate::record::{
@@ -54,17 +54,18 @@ const EDITS: [&str; 12] = [
     "set-header",
 ];
 
-/// Reads a whole script. The last line may lack its line feed.
-pub fn read(script: &[u8]) -> Result<Vec<Line>, Malformed> {
+/// Reads a whole script, its contacts by an edition. The last line may lack its
+/// line feed.
+pub fn read(script: &[u8], edition: Edition) -> Result<Vec<Line>, Malformed> {
     script
         .split_inclusive(|&byte| byte == b'\n')
         .map(|line| line.strip_suffix(b"\n").unwrap_or(line))
         .enumerate()
-        .map(|(n, line)| read_line(line).map_err(|flaw| Malformed { line: n + 1, flaw }))
+        .map(|(n, line)| read_line(line, edition).map_err(|flaw| Malformed { line: n + 1, flaw }))
         .collect()
 }
 
-fn read_line(line: &[u8]) -> Result<Line, Flaw> {
+fn read_line(line: &[u8], edition: Edition) -> Result<Line, Flaw> {
     let mut fields = Fields::of(line);
     let name = fields.first()?;
     if name == b"undo" {
@@ -83,7 +84,7 @@ fn read_line(line: &[u8]) -> Result<Line, Flaw> {
         0
     };
     let record = match kind {
-        1 | 3 => contact(&mut fields)?,
+        1 | 3 => contact(&mut fields, edition)?,
         4 | 6 => channel(&mut fields)?,
         7 | 9 => text_field(&fields.text("name")?),
         10 => Ok(fields.place::<u16>()?.to_le_bytes().to_vec()),
@@ -120,7 +121,7 @@ fn header(fields: &mut Fields) -> Result<Written, Flaw> {
     }))
 }
 
-fn contact(fields: &mut Fields) -> Result<Written, Flaw> {
+fn contact(fields: &mut Fields, edition: Edition) -> Result<Written, Flaw> {
     let name = fields.text("name")?;
     let info = match fields.value("mode")? {
         b"dmr" => Ok(ContactInfo::Dmr {
@@ -128,23 +129,23 @@ fn contact(fields: &mut Fields) -> Result<Written, Flaw> {
             contact_type: fields.number("type")?,
             rx_tone: fields.flag("rxtone")?,
         }),
-        b"m17" => m17_address(fields)?.map(ContactInfo::M17),
+        b"m17" => m17_address(fields, edition)?.map(ContactInfo::M17),
         mode => return Err(flaw("no such contact mode", mode)),
     };
     // A refused callsign has no number, so it is refused before the record.
     Ok(info.and_then(|info| {
         let mut record = vec![0; CONTACT_SIZE];
-        Contact { name, info }.write(&mut record)?;
+        Contact { name, info }.write(&mut record, edition)?;
         Ok(record)
     }))
 }
 
-fn m17_address(fields: &mut Fields) -> Result<Result<Address, Refusal>, Flaw> {
+fn m17_address(fields: &mut Fields, edition: Edition) -> Result<Result<Address, Refusal>, Flaw> {
     match fields.find("broadcast") {
         Some(b"1") => Ok(Ok(Address::Broadcast)),
         Some(value) => Err(flaw("broadcast can only be 1", value)),
         None => {
-            let number = address::text_to_number(fields.value("callsign")?);
+            let number = address::text_to_number(fields.value("callsign")?, edition);
             Ok(number.map(Address::Callsign))
         }
     }

@@ -1,4 +1,5 @@
-//! Random tests that compare parts of the crate with each other.
+//! Random tests that compare parts of the crate with each other, by both
+//! editions.
 
 use obcf_second::address::{number_to_text, text_to_number};
 use obcf_second::book::{Book, Call};
@@ -7,7 +8,7 @@ use obcf_second::edit::{edit, undo, Answer, Edit};
 use obcf_second::history;
 use obcf_second::record::{Channel, Contact};
 use obcf_second::sample::{self, Limits, Rng, Shape};
-use obcf_second::{validate, Refusal};
+use obcf_second::{validate, Edition, Refusal};
 
 const SHAPE: Shape = Shape {
     contacts: 4,
@@ -20,16 +21,17 @@ const SHAPE: Shape = Shape {
 fn random_files_are_valid() {
     let mut rng = Rng::new(11);
     for _ in 0..500 {
-        let file = sample::file(&mut rng, SHAPE);
-        let counts = validate(&file).expect("a valid file");
+        let edition = rng.pick(&Edition::BOTH);
+        let file = sample::file(&mut rng, SHAPE, edition);
+        let counts = validate(&file, edition).expect("a valid file");
         let spans = sample::file_spans(&file);
         let last = spans.last().unwrap();
         assert_eq!(last.at + last.size, file.len());
         for n in 0..usize::from(counts.banks) {
-            let head = bank(&file, n).unwrap();
-            let mut walk = bank_entries(&file, n).unwrap();
+            let head = bank(&file, n, edition).unwrap();
+            let mut walk = bank_entries(&file, n, edition).unwrap();
             for place in 0..usize::from(head.entry_count) {
-                assert_eq!(walk.read_next(), bank_entry(&file, n, place));
+                assert_eq!(walk.read_next(), bank_entry(&file, n, place, edition));
             }
             assert_eq!(
                 walk.read_next(),
@@ -39,7 +41,7 @@ fn random_files_are_valid() {
                 })
             );
         }
-        assert_eq!(bank(&file, usize::MAX).unwrap_err().number, 33);
+        assert_eq!(bank(&file, usize::MAX, edition).unwrap_err().number, 33);
     }
 }
 
@@ -47,8 +49,10 @@ fn random_files_are_valid() {
 fn records_read_back_as_written() {
     let mut rng = Rng::new(12);
     for _ in 0..2_000 {
-        let contact = sample::contact(&mut rng);
-        assert_eq!(Contact::read(&sample::contact_bytes(&contact)), Ok(contact));
+        let edition = rng.pick(&Edition::BOTH);
+        let contact = sample::contact(&mut rng, edition);
+        let record = sample::contact_bytes(&contact, edition);
+        assert_eq!(Contact::read(&record, edition), Ok(contact));
         let channel = sample::channel(&mut rng, sample::any_contact);
         assert_eq!(Channel::read(&sample::channel_bytes(&channel)), Ok(channel));
     }
@@ -63,11 +67,13 @@ fn records_write_back_as_read() {
         channels: 3,
     };
     for _ in 0..5_000 {
-        let mut record = sample::contact_bytes(&sample::contact(&mut rng));
+        let edition = rng.pick(&Edition::BOTH);
+        let contact = sample::contact(&mut rng, edition);
+        let mut record = sample::contact_bytes(&contact, edition);
         let span = rng.pick(&sample::contact_spans(&record));
         sample::spoil(&mut rng, &mut record, span, limits);
-        if let Ok(contact) = Contact::read(&record) {
-            assert_eq!(sample::contact_bytes(&contact), record);
+        if let Ok(contact) = Contact::read(&record, edition) {
+            assert_eq!(sample::contact_bytes(&contact, edition), record);
         }
         let channel = sample::channel(&mut rng, sample::any_contact);
         let mut record = sample::channel_bytes(&channel);
@@ -83,20 +89,21 @@ fn records_write_back_as_read() {
 fn callsigns_round_trip() {
     let mut rng = Rng::new(14);
     for _ in 0..5_000 {
-        let number = sample::callsign_number(&mut rng);
+        let edition = rng.pick(&Edition::BOTH);
+        let number = sample::callsign_number(&mut rng, edition);
         let mut buffer = [0xEE; 9];
-        number_to_text(number, &mut buffer).unwrap();
+        number_to_text(number, &mut buffer, edition).unwrap();
         let length = buffer.iter().position(|&b| b == 0).unwrap_or(9);
-        assert_eq!(text_to_number(&buffer[..length]), Ok(number));
+        assert_eq!(text_to_number(&buffer[..length], edition), Ok(number));
     }
 }
 
 /// A call that makes sense for this file, more often than not.
-fn random_call(rng: &mut Rng, file: &[u8]) -> Call {
+fn random_call(rng: &mut Rng, file: &[u8], edition: Edition) -> Call {
     if rng.one_in(4) {
         return Call::Undo;
     }
-    let codeplug = Codeplug::read(file).unwrap();
+    let codeplug = Codeplug::read(file, edition).unwrap();
     let kind = if rng.one_in(40) {
         rng.pick(&[0, 13, u64::MAX])
     } else {
@@ -127,7 +134,8 @@ fn random_call(rng: &mut Rng, file: &[u8]) -> Call {
     }
     let limits = Limits::of_file(file);
     let mut record = match kind {
-        1 | 3 => sample::contact_bytes(&sample::contact(rng)),
+        // By the older edition a hash address is 8.
+        1 | 3 => sample::contact_bytes(&sample::contact(rng, Edition::Newer), Edition::Newer),
         4 | 6 => {
             let modes: Vec<_> = codeplug.contacts.iter().map(|c| c.info.mode()).collect();
             let choose = |rng: &mut Rng, mode| sample::contact_of_mode(rng, &modes, mode);
@@ -190,6 +198,7 @@ struct Machine {
     length: usize,
     history: Vec<u8>,
     history_length: usize,
+    edition: Edition,
 }
 
 impl Machine {
@@ -205,12 +214,14 @@ impl Machine {
                 &mut self.history,
                 self.history_length,
                 what,
+                self.edition,
             ),
             Call::Undo => undo(
                 &mut self.room,
                 self.length,
                 &mut self.history,
                 self.history_length,
+                self.edition,
             ),
         }?;
         self.length = answer.length;
@@ -222,18 +233,19 @@ impl Machine {
 /// A random list of calls, each made for the file that the ones before it leave
 /// in ample buffers, with the lengths of the longest file and history on the
 /// way.
-fn random_calls(rng: &mut Rng, opening: &[u8]) -> (Vec<Call>, usize, usize) {
+fn random_calls(rng: &mut Rng, opening: &[u8], edition: Edition) -> (Vec<Call>, usize, usize) {
     let mut machine = Machine {
         room: opening.to_vec(),
         length: opening.len(),
         history: vec![0; 20_000],
         history_length: 0,
+        edition,
     };
     machine.room.resize(opening.len() + 4_000, 0);
     let (mut longest_file, mut longest_history) = (machine.length, 0);
     let calls = (0..rng.below(16))
         .map(|_| {
-            let call = random_call(rng, machine.file());
+            let call = random_call(rng, machine.file(), edition);
             let _ = machine.call(&call);
             longest_file = longest_file.max(machine.length);
             longest_history = longest_history.max(machine.history_length);
@@ -243,16 +255,16 @@ fn random_calls(rng: &mut Rng, opening: &[u8]) -> (Vec<Call>, usize, usize) {
     (calls, longest_file, longest_history)
 }
 
-/// Makes the calls on a machine and in a book, and compares every answer and
-/// all that is lent. Counts the refusals by number, and acceptance as 0.
-fn compare(opening: &[u8], spare: &[u8], history: &[u8], calls: &[Call], seen: &mut [u32; 40]) {
-    let mut machine = Machine {
-        room: [opening, spare].concat(),
-        length: opening.len(),
-        history: history.to_vec(),
-        history_length: 0,
-    };
-    let mut book = Book::open(opening.to_vec(), machine.room.len(), history.len());
+/// Makes the calls on a machine with an empty history and in a book, and
+/// compares every answer and all that is lent. Counts the refusals by number,
+/// and acceptance as 0.
+fn compare(mut machine: Machine, calls: &[Call], seen: &mut [u32; 40]) {
+    let mut book = Book::open(
+        machine.file().to_vec(),
+        machine.room.len(),
+        machine.history.len(),
+        machine.edition,
+    );
     for call in calls {
         let (room, history) = (machine.room.clone(), machine.history.clone());
         let (length, history_length) = (machine.length, machine.history_length);
@@ -283,8 +295,9 @@ fn the_book_agrees_with_the_machine() {
     let mut rng = Rng::new(15);
     let mut seen = [0; 40];
     for _ in 0..1_000 {
-        let opening = sample::file(&mut rng, SHAPE);
-        let (calls, longest_file, longest_history) = random_calls(&mut rng, &opening);
+        let edition = rng.pick(&Edition::BOTH);
+        let opening = sample::file(&mut rng, SHAPE, edition);
+        let (calls, longest_file, longest_history) = random_calls(&mut rng, &opening, edition);
         let exact = longest_file - opening.len();
         // Ample, exact, one byte short, tiny.
         let sizes = [
@@ -296,8 +309,14 @@ fn the_book_agrees_with_the_machine() {
             (exact + 50, rng.below(12)),
         ];
         for (spare, history) in sizes {
-            let (spare, history) = (rng.bytes(spare), rng.bytes(history));
-            compare(&opening, &spare, &history, &calls, &mut seen);
+            let machine = Machine {
+                room: [opening.clone(), rng.bytes(spare)].concat(),
+                length: opening.len(),
+                history: rng.bytes(history),
+                history_length: 0,
+                edition,
+            };
+            compare(machine, &calls, &mut seen);
         }
     }
     // 34 would need a full bank, and 39 a history that no edit writes.
@@ -311,7 +330,8 @@ fn the_book_agrees_with_the_machine() {
 fn undo_takes_edits_back() {
     let mut rng = Rng::new(16);
     for _ in 0..300 {
-        let opening = sample::file(&mut rng, SHAPE);
+        let edition = rng.pick(&Edition::BOTH);
+        let opening = sample::file(&mut rng, SHAPE, edition);
         let mut room = opening.clone();
         room.resize(10_000, 0);
         let mut machine = Machine {
@@ -319,10 +339,11 @@ fn undo_takes_edits_back() {
             history: vec![0; 20_000],
             history_length: 0,
             room,
+            edition,
         };
         let mut files = vec![opening];
         for _ in 0..12 {
-            let call = random_call(&mut rng, machine.file());
+            let call = random_call(&mut rng, machine.file(), edition);
             if call != Call::Undo && machine.call(&call).is_ok() {
                 files.push(machine.file().to_vec());
             }

@@ -1,18 +1,18 @@
 //! Legacy files: the legacy reading, and migrating them (paper 02: request
-//! [5]).
+//! [5]), by both editions of request [10].
 
 use std::collections::HashSet;
 use std::io::Write;
 use std::process::{Command, Output, Stdio};
 
 use obcf_second::book::{Book, Call};
-use obcf_second::codeplug::Codeplug;
+use obcf_second::codeplug::{self, Codeplug};
 use obcf_second::edit::{edit, undo, Edit};
-use obcf_second::legacy::read_legacy;
+use obcf_second::legacy::{self, read_legacy};
 use obcf_second::lists::{bank_of, file_of, random_call, Lent};
 use obcf_second::record::{ChannelInfo, ContactInfo};
 use obcf_second::sample::{self, Rng, Shape};
-use obcf_second::{doubtful, migrate, validate, validate_legacy, Counts, Refusal, LONGEST};
+use obcf_second::{doubtful, Counts, Edition, Refusal, LONGEST};
 
 const SHAPE: Shape = Shape {
     contacts: 4,
@@ -44,18 +44,43 @@ fn counts(contacts: u16, channels: u16, banks: u16) -> Result<Counts, Refusal> {
 }
 
 /// What migrating answers, and the file it leaves.
-fn migrated(file: &[u8]) -> (Result<Counts, Refusal>, Vec<u8>) {
+fn migrated_by(file: &[u8], edition: Edition) -> (Result<Counts, Refusal>, Vec<u8>) {
     let mut left = file.to_vec();
-    let answer = migrate(&mut left);
+    let answer = legacy::migrate(&mut left, edition);
     (answer, left)
 }
 
 /// The same with the file refused, which must stay as it is.
-fn check_refused(file: &[u8], number: u8, place: usize) {
-    assert_eq!(validate_legacy(file), refused(number, place));
-    let (answer, left) = migrated(file);
+fn check_refused_by(file: &[u8], number: u8, place: usize, edition: Edition) {
+    let answer = legacy::validate_legacy(file, edition);
+    assert_eq!(answer, refused(number, place));
+    let (answer, left) = migrated_by(file, edition);
     assert_eq!(answer, refused(number, place));
     assert!(left == file, "a refused file has changed");
+}
+
+// Without hash addresses both editions answer alike.
+
+fn by_both<T: PartialEq>(answer: impl Fn(Edition) -> T) -> T {
+    let [older, newer] = Edition::BOTH.map(answer);
+    assert!(older == newer);
+    older
+}
+
+fn migrated(file: &[u8]) -> (Result<Counts, Refusal>, Vec<u8>) {
+    by_both(|edition| migrated_by(file, edition))
+}
+
+fn check_refused(file: &[u8], number: u8, place: usize) {
+    by_both(|edition| check_refused_by(file, number, place, edition))
+}
+
+fn validate(file: &[u8]) -> Result<Counts, Refusal> {
+    by_both(|edition| codeplug::validate(file, edition))
+}
+
+fn read(file: &[u8]) -> Codeplug {
+    by_both(|edition| Codeplug::read(file, edition)).unwrap()
 }
 
 // A small legacy file, laid out by hand.
@@ -110,7 +135,7 @@ fn a_small_file_is_migrated() {
     assert!(left == with(&changes));
     assert_eq!(validate(&left), counts(2, 3, 1));
 
-    let codeplug = Codeplug::read(&left).unwrap();
+    let codeplug = read(&left);
     let traits = codeplug.channels.iter();
     let traits: Vec<_> = traits.map(|c| (c.bandwidth, c.receive_only)).collect();
     assert_eq!(traits, [(1, true), (2, false), (0, true)]);
@@ -126,7 +151,7 @@ fn a_small_file_is_migrated() {
 #[test]
 fn halves_stay() {
     let (_, left) = migrated(&small_file());
-    let codeplug = Codeplug::read(&left).unwrap();
+    let codeplug = read(&left);
     let dmr = ChannelInfo::Dmr {
         rx_colour: 0xA,
         tx_colour: 0x5,
@@ -157,19 +182,15 @@ fn every_byte_by_both_readings() {
             match by_old {
                 None => check_refused(&file, 7, place),
                 Some(row) => {
-                    assert_eq!(validate_legacy(&file), counts(2, 3, 1));
                     let expected = with(&[&zeros[..], &[(place, row.1)]].concat());
                     assert!(migrated(&file) == (counts(2, 3, 1), expected));
-                    let codeplug = read_legacy(&file).unwrap();
+                    let codeplug = by_both(|edition| read_legacy(&file, edition)).unwrap();
                     assert_eq!(parts(&codeplug, place), (row.2, row.3));
                 }
             }
             match by_new {
                 None => assert_eq!(validate(&file), refused(7, place)),
-                Some(row) => {
-                    let codeplug = Codeplug::read(&file).unwrap();
-                    assert_eq!(parts(&codeplug, place), (row.2, row.3));
-                }
+                Some(row) => assert_eq!(parts(&read(&file), place), (row.2, row.3)),
             }
         }
     }
@@ -216,7 +237,7 @@ fn the_first_refusal_answers() {
 fn lengths_of_old_files() {
     check_refused(&[], 2, 0);
     let mut empty = vec![0; 88];
-    obcf_second::codeplug::write_empty(&mut empty).unwrap();
+    codeplug::write_empty(&mut empty).unwrap();
     assert!(migrated(&empty) == (counts(0, 0, 0), empty.clone()));
     check_refused(&empty[..87], 2, 86);
     check_refused(&[&empty[..], &[0]].concat(), 12, 88);
@@ -231,11 +252,10 @@ fn lengths_of_old_files() {
     banks.push(bank_of(&[0; 32], &vec![0; left / 2]));
     let mut file = file_of(&mut Rng::new(1), &[], &[channel], &banks);
     assert_eq!((file.len(), left % 2), (LONGEST, 0));
-    let old = file.clone();
-    assert_eq!(migrate(&mut file), counts(0, 1, 8));
-    assert_eq!(file[89], 0x02);
-    file[89] = 0x80;
-    assert!(file == old);
+    let (answer, mut left) = migrated(&file);
+    assert_eq!((answer, left[89]), (counts(0, 1, 8), 0x02));
+    left[89] = 0x80;
+    assert!(left == file);
     file.push(0);
     check_refused(&file, 1, 0);
 }
@@ -243,15 +263,18 @@ fn lengths_of_old_files() {
 #[test]
 fn a_cut_at_every_length() {
     let mut rng = Rng::new(21);
-    let mut files: Vec<Vec<u8>> = vec![small_file()];
-    files.extend((0..20).map(|_| sample::legacy_file(&mut rng, SHAPE)));
-    for file in files {
+    let mut files = vec![(small_file(), Edition::Older)];
+    files.extend((0..20).map(|_| {
+        let edition = rng.pick(&Edition::BOTH);
+        (sample::legacy_file(&mut rng, SHAPE, edition), edition)
+    }));
+    for (file, edition) in files {
         let spans = sample::legacy_file_spans(&file);
         for length in 0..file.len() {
             let cut = spans.iter().find(|span| span.at + span.size > length);
-            check_refused(&file[..length], 2, cut.unwrap().at);
+            check_refused_by(&file[..length], 2, cut.unwrap().at, edition);
         }
-        assert!(migrate(&mut file.clone()).is_ok());
+        assert!(migrated_by(&file, edition).0.is_ok());
     }
 }
 
@@ -263,12 +286,14 @@ fn files_put_into_the_old_order_come_back() {
     let mut rng = Rng::new(22);
     let mut changed = 0;
     for _ in 0..1_000 {
-        let file = sample::file(&mut rng, SHAPE);
+        let edition = rng.pick(&Edition::BOTH);
+        let file = sample::file(&mut rng, SHAPE, edition);
         let mut old = file.clone();
         sample::to_legacy(&mut old);
         changed += usize::from(old != file);
-        assert_eq!(read_legacy(&old), Codeplug::read(&file));
-        assert!(migrated(&old) == (validate(&file), file));
+        assert_eq!(read_legacy(&old, edition), Codeplug::read(&file, edition));
+        let answer = codeplug::validate(&file, edition);
+        assert!(migrated_by(&old, edition) == (answer, file));
     }
     assert!(changed > 500, "{changed}");
 }
@@ -280,19 +305,20 @@ fn files_are_equal_field_by_field() {
     let mut rng = Rng::new(23);
     let mut zero = 0;
     for _ in 0..1_000 {
-        let old = sample::legacy_file(&mut rng, SHAPE);
-        let codeplug = read_legacy(&old).expect("a valid legacy file");
-        let (answer, mut left) = migrated(&old);
+        let edition = rng.pick(&Edition::BOTH);
+        let old = sample::legacy_file(&mut rng, SHAPE, edition);
+        let codeplug = read_legacy(&old, edition).expect("a valid legacy file");
+        let (answer, mut left) = migrated_by(&old, edition);
         assert_eq!(answer, Ok(codeplug.header.counts));
-        assert_eq!(Codeplug::read(&left), Ok(codeplug));
+        assert_eq!(Codeplug::read(&left, edition), Ok(codeplug));
         assert_eq!(left.len(), old.len());
 
         let places = sample::settings_places(&old);
         let first = places.iter().copied().find(|&at| old[at] != 0);
         match first {
             // The same file again is refused at its first byte that is not 0.
-            Some(at) => check_refused(&left, 7, at),
-            None => assert!(migrated(&left) == (answer, old.clone())),
+            Some(at) => check_refused_by(&left, 7, at, edition),
+            None => assert!(migrated_by(&left, edition) == (answer, old.clone())),
         }
         zero += usize::from(first.is_none() && !places.is_empty());
         for at in places {
@@ -331,8 +357,8 @@ fn different_files_stay_different() {
     let mut rng = Rng::new(24);
     let (mut old, mut new) = (HashSet::new(), HashSet::new());
     for _ in 0..2_000 {
-        let file = doubtful::short_legacy_file(&mut rng);
-        if let (Ok(_), left) = migrated(&file) {
+        let file = doubtful::short_legacy_file(&mut rng, Edition::Newer);
+        if let (Ok(_), left) = migrated_by(&file, Edition::Newer) {
             old.insert(file);
             new.insert(left);
         }
@@ -361,7 +387,7 @@ fn places(file: &[u8]) -> Vec<usize> {
 
 /// The legacy answer by another way: that of the file with all traits and
 /// contact settings zero, unless an earlier one of them is bad.
-fn legacy_answer(file: &[u8]) -> Result<Counts, Refusal> {
+fn legacy_answer(file: &[u8], edition: Edition) -> Result<Counts, Refusal> {
     let mut zeros = file.to_vec();
     let mut bad = None;
     for at in places(file) {
@@ -369,7 +395,7 @@ fn legacy_answer(file: &[u8]) -> Result<Counts, Refusal> {
         let good = BYTES.iter().any(|row| row.0 == file[at]);
         bad = bad.or((!good).then_some(at));
     }
-    match (validate(&zeros), bad) {
+    match (codeplug::validate(&zeros, edition), bad) {
         (Err(refusal), Some(at)) if refusal.place < at => Err(refusal),
         (_, Some(at)) => refused(7, at),
         (answer, None) => answer,
@@ -382,28 +408,29 @@ fn doubtful_files_are_answered_alike() {
     let mut seen = [0; 13];
     let mut at_settings = 0;
     for n in 0..6_000 {
+        let edition = Edition::BOTH[n % 2];
         let file = match n % 3 {
-            0 => doubtful::legacy_file(&mut rng),
-            1 => doubtful::short_legacy_file(&mut rng),
-            _ => doubtful::file(&mut rng),
+            0 => doubtful::legacy_file(&mut rng, edition),
+            1 => doubtful::short_legacy_file(&mut rng, edition),
+            _ => doubtful::file(&mut rng, edition),
         };
-        let answer = legacy_answer(&file);
+        let answer = legacy_answer(&file, edition);
         match answer {
             Err(Refusal { number, place }) => {
                 seen[usize::from(number)] += 1;
-                check_refused(&file, number, place);
+                check_refused_by(&file, number, place, edition);
                 at_settings += usize::from(places(&file).contains(&place));
             }
             Ok(_) => {
                 seen[0] += 1;
-                assert_eq!(validate_legacy(&file), answer);
+                assert_eq!(legacy::validate_legacy(&file, edition), answer);
                 let mut expected = file.clone();
                 for at in places(&file) {
                     let row = BYTES.iter().find(|row| row.0 == file[at]);
                     expected[at] = row.unwrap().1;
                 }
-                assert_eq!(validate(&expected), answer);
-                assert!(migrated(&file) == (answer, expected));
+                assert_eq!(codeplug::validate(&expected, edition), answer);
+                assert!(migrated_by(&file, edition) == (answer, expected));
             }
         }
     }
@@ -421,21 +448,23 @@ fn doubtful_files_are_answered_alike() {
 fn calls_follow_a_migration() {
     let mut rng = Rng::new(26);
     for _ in 0..200 {
-        let mut room = sample::legacy_file(&mut rng, SHAPE);
+        let edition = rng.pick(&Edition::BOTH);
+        let mut room = sample::legacy_file(&mut rng, SHAPE, edition);
         let length = room.len();
         room.resize(length + 500, 0xEE);
-        migrate(&mut room[..length]).unwrap();
+        legacy::migrate(&mut room[..length], edition).unwrap();
         assert_eq!(room[length..], [0xEE; 500]);
         let opening = room[..length].to_vec();
-        let mut book = Book::open(opening.clone(), room.len(), 20_000);
+        let mut book = Book::open(opening.clone(), room.len(), 20_000, edition);
         let mut lent = Lent {
             room,
             length: length as u64,
             history: vec![0xEE; 20_000],
             history_length: 0,
+            edition,
         };
         for _ in 0..8 {
-            let call = random_call(&mut rng, lent.file().unwrap());
+            let call = random_call(&mut rng, lent.file().unwrap(), edition);
             assert_eq!(lent.call(&call), book.call(&call), "{call:?}");
             assert!(lent.file() == Some(&book.file()));
         }
@@ -456,13 +485,17 @@ fn old_files_are_not_edited() {
         record: Vec::new(),
     };
     let history = &mut [0; 1_000];
+    let edition = Edition::Older;
     assert_eq!(
-        edit(&mut file, length, history, 0, &remove),
+        edit(&mut file, length, history, 0, &remove, edition),
         refused(7, SETTINGS)
     );
-    assert_eq!(undo(&mut file, length, history, 0), refused(7, SETTINGS));
-    migrate(&mut file).unwrap();
-    assert!(edit(&mut file, length, history, 0, &remove).is_ok());
+    assert_eq!(
+        undo(&mut file, length, history, 0, edition),
+        refused(7, SETTINGS)
+    );
+    legacy::migrate(&mut file, edition).unwrap();
+    assert!(edit(&mut file, length, history, 0, &remove, edition).is_ok());
 }
 
 // The program.

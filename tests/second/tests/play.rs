@@ -13,7 +13,7 @@ use obcf_second::play::{Player, HISTORY_SIZE, ROOM_SIZE};
 use obcf_second::record::{Channel, ChannelInfo, Contact, ContactInfo, Location};
 use obcf_second::script;
 use obcf_second::tone::Tone;
-use obcf_second::Refusal;
+use obcf_second::{Edition, Refusal};
 
 const CALLSIGN: &str = "mode=m17|name=Friend|callsign=AB1CD";
 const BROADCAST: &str = "mode=m17|name=|broadcast=1";
@@ -32,10 +32,17 @@ fn empty() -> Vec<u8> {
     file
 }
 
-/// What is printed for a script, and the file it leaves.
+/// What is printed for a script without hash signs, and the file it leaves, by
+/// both editions alike.
 fn play(opening: &[u8], script: &str) -> (String, Vec<u8>) {
-    let mut player = Player::open(opening).unwrap();
-    let script = script::read(tabs(script).as_bytes()).unwrap();
+    let [older, newer] = Edition::BOTH.map(|edition| play_by(opening, script, edition));
+    assert_eq!(older, newer);
+    older
+}
+
+fn play_by(opening: &[u8], script: &str, edition: Edition) -> (String, Vec<u8>) {
+    let mut player = Player::open(opening, edition).unwrap();
+    let script = script::read(tabs(script).as_bytes(), edition).unwrap();
     let mut out = Vec::new();
     player.play(&script, &mut out).unwrap();
     (String::from_utf8(out).unwrap(), player.file().to_vec())
@@ -150,7 +157,7 @@ fn contacts_left() -> [Contact; 2] {
 
 /// Checks the file that `every_call` makes of the empty codeplug.
 fn check_file_left(file: &[u8]) {
-    let codeplug = Codeplug::read(file).unwrap();
+    let codeplug = Codeplug::read(file, Edition::Older).unwrap();
     assert_eq!(codeplug.header.author, b"N0CALL");
     assert_eq!(codeplug.header.description, b"A small codeplug");
     assert_eq!(codeplug.header.timestamp, u64::MAX);
@@ -198,7 +205,7 @@ fn answers_are_printed() {
 fn records_are_read_from_fields() {
     let script = format!("insert-contact|0|{CALLSIGN}\ninsert-channel|0|{COMMON}|{FM}");
     let (_, file) = play(&empty(), &script);
-    let codeplug = Codeplug::read(&file).unwrap();
+    let codeplug = Codeplug::read(&file, Edition::Older).unwrap();
     let friend = Contact {
         name: b"Friend".to_vec(),
         info: ContactInfo::M17(Address::Callsign(10_476_881)),
@@ -261,6 +268,37 @@ fn writers_refuse_records() {
     assert_eq!(channel("FM", "FM"), "refused 33 at 0");
 }
 
+/// The first two words for each contact inserted with one of these callsigns,
+/// and the file left.
+fn play_callsigns(callsigns: &[&str], edition: Edition) -> (Vec<String>, Vec<u8>) {
+    let line = |text| format!("insert-contact|0|mode=m17|name=|callsign={text}\n");
+    let script: String = callsigns.iter().map(line).collect();
+    let (out, file) = play_by(&empty(), &script, edition);
+    let words = |line: &str| line.split(' ').take(2).collect::<Vec<_>>().join(" ");
+    (out.lines().map(words).collect(), file)
+}
+
+#[test]
+fn hash_signs_follow_the_edition() {
+    let bad = ["# ", "A#", "##", "#AAAAAAAAA"];
+    let (out, file) = play_callsigns(&bad, Edition::Newer);
+    let refused = ["refused 22", "refused 21", "refused 21", "refused 20"];
+    assert!(out == refused && file == empty());
+
+    let good = ["#", "#AB1CD", "#........", "# A"];
+    let (out, file) = play_callsigns(&good, Edition::Older);
+    assert!(out == ["refused 21"; 4] && file == empty());
+    let (out, file) = play_callsigns(&good, Edition::Newer);
+    assert_eq!(out, ["done 127", "done 166", "done 205", "done 244"]);
+    let numbers = [40, 6_553_599_999_999, 10_476_881, 0];
+    let info = |n: u64| ContactInfo::M17(Address::Callsign(262_144_000_000_000 + n));
+    let contacts = Codeplug::read(&file, Edition::Newer).unwrap().contacts;
+    let infos: Vec<ContactInfo> = contacts.into_iter().map(|contact| contact.info).collect();
+    assert_eq!(infos, numbers.map(info));
+    let refusal = Player::open(&file, Edition::Older).err();
+    assert_eq!(refusal.unwrap().to_string(), "refused 8 at 121");
+}
+
 #[test]
 fn edits_are_refused() {
     assert_eq!(refusal("remove-contact|0"), "refused 33 at 0");
@@ -291,7 +329,7 @@ fn no_calls_change_nothing() {
 /// A script whose second line is this one must be malformed there.
 fn check_malformed(line: &str) {
     let script = tabs(&format!("insert-bank|0|name=\n{line}\nundo\n"));
-    let malformed = script::read(script.as_bytes()).expect_err(line);
+    let malformed = script::read(script.as_bytes(), Edition::Older).expect_err(line);
     assert_eq!(malformed.line, 2, "{line}");
 }
 
@@ -374,14 +412,15 @@ fn malformed_channels() {
 #[test]
 fn a_differing_book_stops_the_script() {
     let stop = |book| {
-        let mut player = Player::open(&empty()).unwrap();
+        let mut player = Player::open(&empty(), Edition::Older).unwrap();
         player.book = book;
-        let script = script::read(b"insert-bank\t0\tname=\nundo\nundo\n").unwrap();
+        let script = b"insert-bank\t0\tname=\nundo\nundo\n";
+        let script = script::read(script, Edition::Older).unwrap();
         let mut out = Vec::new();
         let error = player.play(&script, &mut out).unwrap_err();
         (String::from_utf8(out).unwrap(), error.to_string())
     };
-    let small = Book::open(empty(), ROOM_SIZE, 2);
+    let small = Book::open(empty(), ROOM_SIZE, 2, Edition::Older);
     let (out, error) = stop(small);
     assert_eq!(
         (out.as_str(), error.as_str()),
@@ -389,7 +428,8 @@ fn a_differing_book_stops_the_script() {
     );
     let mut other = empty();
     other[74] = 1;
-    let (out, error) = stop(Book::open(other, ROOM_SIZE, HISTORY_SIZE));
+    let other = Book::open(other, ROOM_SIZE, HISTORY_SIZE, Edition::Older);
+    let (out, error) = stop(other);
     assert_eq!(
         (out.as_str(), error.as_str()),
         ("", "line 1: the book holds another file")
@@ -398,7 +438,7 @@ fn a_differing_book_stops_the_script() {
 
 #[test]
 fn only_valid_files_are_opened() {
-    let refused = |file: &[u8]| Player::open(file).err();
+    let refused = |file: &[u8]| Player::open(file, Edition::Older).err();
     let refusal = |number, place| Some(Refusal { number, place });
     assert_eq!(refused(&empty()), None);
     assert_eq!(refused(&empty()[..87]), refusal(2, 86));
@@ -414,9 +454,15 @@ fn path(name: &str) -> PathBuf {
 
 /// Runs the program; `open` and `out` are the arguments after `play`.
 fn run(open: &str, out: &PathBuf, script: &str) -> Output {
+    run_by(open, out, script, &[])
+}
+
+/// The same with arguments after these.
+fn run_by(open: &str, out: &PathBuf, script: &str, last: &[&str]) -> Output {
     let mut program = Command::new(env!("CARGO_BIN_EXE_second"))
         .args(["play", open])
         .arg(out)
+        .args(last)
         .stdin(Stdio::piped())
         .stdout(Stdio::piped())
         .stderr(Stdio::piped())
@@ -440,6 +486,34 @@ fn the_program_plays_scripts() {
     let ran = run(out.to_str().unwrap(), &out, "remove-bank|1\n");
     assert_eq!(ran.status.code(), Some(0));
     assert_eq!(fs::read(&out).unwrap(), play(&file, "remove-bank|1").1);
+}
+
+#[test]
+fn the_program_plays_by_an_edition() {
+    let out = path("hash");
+    let script = "insert-contact|0|mode=m17|name=|callsign=#A\n";
+    for last in [&[][..], &["older"]] {
+        let ran = run_by("empty", &out, script, last);
+        assert_eq!(ran.stdout, b"refused 21 at 0\n");
+    }
+    let ran = run_by("empty", &out, script, &["newer"]);
+    assert_eq!(ran.status.code(), Some(0));
+    let (lines, file) = play_by(&empty(), script, Edition::Newer);
+    assert_eq!(ran.stdout, lines.as_bytes());
+    assert_eq!(fs::read(&out).unwrap(), file);
+
+    // The same file is opened by the newer edition only.
+    let hash = out.to_str().unwrap();
+    let ran = run_by(hash, &path("again"), "undo\n", &["newer"]);
+    assert_eq!(ran.stdout, b"refused 38 at 0\n");
+    let ran = run_by(hash, &path("again"), "undo\n", &["older"]);
+    assert_eq!((ran.status.code(), ran.stdout.len()), (Some(1), 0));
+    let error = String::from_utf8(ran.stderr).unwrap();
+    assert!(error.ends_with("hash: refused 8 at 121\n"), "{error}");
+    for last in [&["Newer"][..], &["newer", "newer"], &[""]] {
+        let ran = run_by("empty", &out, "", last);
+        assert_eq!(ran.status.code(), Some(2), "{last:?}");
+    }
 }
 
 #[test]

@@ -1,8 +1,11 @@
 //! What the tests share.
 #![allow(dead_code)]
-use codeplug::{Channel, Codeplug, Contact, ContactInfo, Info, Refused, Tone};
+use codeplug::{Channel, Codeplug, Contact, ContactInfo, Edition, Info, Refused, Tone};
 
 pub const ROOT: &str = concat!(env!("CARGO_MANIFEST_DIR"), "/../..");
+
+pub const OLDER: Edition = Edition::Older;
+pub const NEWER: Edition = Edition::Newer;
 
 /// A file of samples/.
 pub fn sample(name: &str) -> Vec<u8> {
@@ -11,7 +14,7 @@ pub fn sample(name: &str) -> Vec<u8> {
 
 /// The club's codeplug: 6 contacts, 10 channels, 4 banks.
 pub fn club() -> Codeplug {
-    Codeplug::open(&sample("club"), 1000, 10_000).unwrap()
+    Codeplug::open(&sample("club"), 1000, 10_000, OLDER).unwrap()
 }
 
 pub fn no<T>(number: u8, place: usize) -> Result<T, Refused> {

@@ -6,7 +6,7 @@ use Rattle.contact_reader.proofs.read.Statement.{statement}
 use Rattle.contact_reader.proofs.read.Tie as tie
 
 answer-requires : tie.Need-answer-requires
-answer-requires c κs = λ valid. valid-length (c .before .before .args .s .now) 0 (sym (c .validate .ensures) ∙ valid)
+answer-requires c κs = λ valid. valid-length _ (c .before .before .args .s .now) 0 (sym (c .validate .ensures) ∙ valid)
 
 returns : tie.Need-returns
 returns c = rw (c .answer .ensures, c .before .validate .ensures)

@@ -12,13 +12,13 @@ put-be48-requires c κs =
     let b = c .before .before .before .before in
     let i = b .before .before .before in
     let e = i .before .before .before in
-    (omega arith, rw (c .address-number .ensures) (addressNumber-lt _ (m17-writable _ (rw (i .info .given .1) at (e .pre .1 .1)))))
+    (omega arith, rw (c .address-number .ensures) (addressNumber-lt _ _ (m17-writable _ _ (rw (i .info .given .1) at (e .pre .1 .1 .1)))))
 
 number-flag-byte-requires : tie.Need-number-flag-byte-requires
 number-flag-byte-requires c κs =
     let i = c .before .before .before .before .before .before .before .before .before .before .before in
     let e = i .before .before .before in
-    rw (c .settings-number-flag .ensures) (dmr-writable _ (rw (i .info2 .given .1) at (e .pre .1 .1)))
+    rw (c .settings-number-flag .ensures) (dmr-writable _ _ (rw (i .info2 .given .1) at (e .pre .1 .1 .1)))
 
 returns : tie.Need-returns
 returns c =

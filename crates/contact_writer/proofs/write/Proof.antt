@@ -15,15 +15,15 @@ enum-told c = search needs
 
 contact-bytes-requires : tie.Need-contact-bytes-requires
 contact-bytes-requires c κs =
-    let g = given-valid _ _ _ (sym (c .before .before .validate .ensures) ∙ c .enum-told .given .1) in
-    (g .1, g .2)
+    let g = given-valid _ _ _ _ (sym (c .before .before .validate .ensures) ∙ c .enum-told .given .1) in
+    (g .1, (_, g .2))
 
 put-requires : tie.Need-put-requires
 put-requires c κs =
     let r = c .before .before in
     let v = r .before .before .before in
     let a = v .before .before .before .args in
-    let g = given-valid _ _ _ (sym (v .validate .ensures) ∙ r .before .enum-told .given .1) in
+    let g = given-valid _ _ _ _ (sym (v .validate .ensures) ∙ r .before .enum-told .given .1) in
     omega (arith, ap length (r .contact-bytes .ensures), length-contactBytes (a .name .now) (a .info) (givenOk-length _ (g .1)))
 
 returns : tie.Need-returns

@@ -36,7 +36,7 @@ returns-9 c =
     let n : List ℕ = 1 ∷ 4 ∷ 7 ∷ 10 ∷ [] in
     rw (
       ← one-of growth 0 (a .k) n refl (c .match .keys9),
-      ← one-of (λ k. resultRule k (a .i) (a .j) (a .r .now) (a .f .now)) Valid (a .k) n refl (c .match .keys9),
+      ← one-of (λ k. resultRule (a .edition) k (a .i) (a .j) (a .r .now) (a .f .now)) Valid (a .k) n refl (c .match .keys9),
     )
 
 pub record-validity-spec : {M : Type 1} → statement M

@@ -16,8 +16,8 @@ planned-change : (c : tie.After-slice-known)
 planned-change c =
     let e = c .before .args in
     let p = c .before .pre in
-    changes (e .room .now) (e .len) (e .history .now) (e .used) (planned (e .plan) (e .bytes .now) (take (e .len) (e .room .now))) (e .s)
-    (p .0 .0) (p .1 .0 .1) (p .1 .1 .0)
+    changes (e .room .now) (e .len) (e .history .now) (e .used) (planned (e .plan) (e .bytes .now) (take (e .len) (e .room .now))) _ (e .s)
+    (p .0 .0 .1) (p .1 .0 .1) (p .1 .1 .0)
 
 sub-new : tie.Need-sub-new
 sub-new c = let m = planned-change (c .before .before) in omega arith

@@ -10,7 +10,7 @@ returns : tie.Need-returns
 returns c =
     let t = c .before .before .before in
     let e = t .before .before .before .before .before .before .args in
-    edit-refused (editRequest (e .kind) (e .first) (e .second) (e .bytes .now)) (stateOf (e .room .now) (e .len) (e .history .now) (e .used)) _ _ _
+    edit-refused _ (editRequest (e .kind) (e .first) (e .second) (e .bytes .now)) (stateOf (e .room .now) (e .len) (e .history .now) (e .used)) _ _ _
     (t .check .ensures) (c .before .n .given .1)
 
 enum-told : tie.Need-enum-told
@@ -26,7 +26,7 @@ returns-2 c =
     let k = c .before .before in
     let t = k .before in
     let e = t .before .before .before .before .before .before .before .before .args in
-    edit-no-kind (editRequest (e .kind) (e .first) (e .second) (e .bytes .now)) (stateOf (e .room .now) (e .len) (e .history .now) (e .used)) _
+    edit-no-kind _ (editRequest (e .kind) (e .first) (e .second) (e .bytes .now)) (stateOf (e .room .now) (e .len) (e .history .now) (e .used)) _
     (sym (t .before .before .check .ensures) ∙ t .enum-told .given .1) (k .kind-of .ensures) (c .enum-told2 .given .1)
 
 returns-3 : tie.Need-returns-3
@@ -37,7 +37,7 @@ returns-3 c =
     let t = k .before in
     let e = t .before .before .before .before .before .before .before .before .args in
     x .edit-known .ensures
-    ∙ edit-known (editRequest (e .kind) (e .first) (e .second) (e .bytes .now)) (stateOf (e .room .now) (e .len) (e .history .now) (e .used)) _ _
+    ∙ edit-known _ (editRequest (e .kind) (e .first) (e .second) (e .bytes .now)) (stateOf (e .room .now) (e .len) (e .history .now) (e .used)) _ _
     (sym (t .before .before .check .ensures) ∙ t .enum-told .given .1) (k .kind-of .ensures) (n .k .given .1)
 
 pub edit-spec : {M : Type 1} → statement M

@@ -13,7 +13,7 @@ returns c =
     let a = bytes .before .before .args in
     let valid = c .before .is-valid-by .ensures (a .p) in
     sym
-    (valid-by-test (legacyContactAt (a .f .now) (a .p))
+    (valid-by-test (legacyContactAt _ (a .f .now) (a .p))
     (rw (← bytes .record-bytes .ensures, ← c .before .before .number-flag-ok .ensures, ← valid) (c .if2 .taken)))
 
 returns-2 : tie.Need-returns-2

@@ -12,10 +12,10 @@ use Rattle.legacy_validation.proofs.validate_contacts.Statement.{statem
 use Rattle.legacy_validation.proofs.validate_contacts.Tie as tie
 
 abbrev Inv-loop : tie.InvT-loop
-Inv-loop f contacts i₀ p₀ i p = (i ≤ contacts) × ((p ≡ p₀ + i * 39) × (legacyContactsRule f ≡ each (legacyContactAt f) (contacts - i) 39 p))
+Inv-loop f edition contacts i₀ p₀ i p = (i ≤ contacts) × ((p ≡ p₀ + i * 39) × (legacyContactsRule edition f ≡ each (legacyContactAt edition f) (contacts - i) 39 p))
 
 abbrev μ-loop : tie.MeasureT-loop
-μ-loop f contacts i₀ p₀ i p = contacts - i
+μ-loop f edition contacts i₀ p₀ i p = contacts - i
 
 loop-holds : tie.Need-loop-holds Inv-loop μ-loop
 unfolding legacyContactsRule contactPlace
@@ -28,19 +28,19 @@ returns : tie.Need-returns Inv-loop μ-loop
 returns c =
     let e = c .before .before in
     let l = e .before .before .loop in
-    each-bad (legacyContactAt _) _ (l .i) 39 (l .p) _ _ _ _ (omega arith) (l .inv .1 .1) (e .contact-at .ensures) (c .enum-told .given .1)
+    each-bad (legacyContactAt _ _) _ (l .i) 39 (l .p) _ _ _ _ (omega arith) (l .inv .1 .1) (e .contact-at .ensures) (c .enum-told .given .1)
 
 loop-again : tie.Need-loop-again Inv-loop μ-loop
 loop-again c =
     let e = c .before .before in
     let l = e .before .before .loop in
-    let next = each-next (legacyContactAt _) _ (l .i) 39 (l .p) _ _ (omega arith) (l .inv .1 .1) (e .contact-at .ensures) (c .enum-told2 .given .1) in
+    let next = each-next (legacyContactAt _ _) _ (l .i) 39 (l .p) _ _ (omega arith) (l .inv .1 .1) (e .contact-at .ensures) (c .enum-told2 .given .1) in
     (omega arith, (omega arith, next))
 
 returns-2 : tie.Need-returns-2 Inv-loop μ-loop
 returns-2 c =
     let l = c .before .loop in
-    each-done (legacyContactAt _) _ (l .i) 39 (l .p) _ (omega arith) (l .inv .1 .1)
+    each-done (legacyContactAt _ _) _ (l .i) 39 (l .p) _ (omega arith) (l .inv .1 .1)
 
 pub validate-contacts-spec : {M : Type 1} → statement M
 validate-contacts-spec =

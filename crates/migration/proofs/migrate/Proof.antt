@@ -15,7 +15,7 @@ use borrow.Author.Needs.{needs}
 use Rattle.migration.proofs.migrate.Statement.{statement}
 use Rattle.migration.proofs.migrate.Tie as tie
 
-valid : (c : tie.After-enum-told) → legacyFileRule (c .before .before .before .before .before .args .f .now) ≡ Valid
+valid : (c : tie.After-enum-told) → legacyFileRule (c .before .before .before .before .before .args .edition) (c .before .before .before .before .before .args .f .now) ≡ Valid
 valid c = sym (c .before .before .validity-of .ensures) ∙ c .enum-told .given .1
 
 all-bytes : (c : tie.After-slice-known) → AllBytes (c .before .args .f .now)
@@ -24,7 +24,7 @@ all-bytes c i = c .slice-known .given i .fits
 inside : (c : tie.After-enum-told)
     → (88 + contactCount (c .before .before .before .before .before .args .f .now) * 39 ≤ length (c .before .before .before .before .before .args .f .now))
     × (channelPlace (c .before .before .before .before .before .args .f .now) 0 + channelCount (c .before .before .before .before .before .args .f .now) * 90 ≤ length (c .before .before .before .before .before .args .f .now))
-inside c = records-inside _ (all-bytes (c .before .before .before .before)) (valid c)
+inside c = records-inside _ _ (all-bytes (c .before .before .before .before)) (valid c)
 
 enum-told : tie.Need-enum-told
 enum-told c = search needs
@@ -33,7 +33,7 @@ returns : tie.Need-returns
 unfolding legacyValidation validatedBy
 returns c =
     let v = c .before .before .before in
-    (rw (← v .validity-of .ensures, c .before .n .given .1), left-as-is _ _ _ _ (v .validity-of .ensures) (c .before .n .given .1))
+    (rw (← v .validity-of .ensures, c .before .n .given .1), left-as-is _ _ _ _ _ (v .validity-of .ensures) (c .before .n .given .1))
 
 migrate-contacts-requires : tie.Need-migrate-contacts-requires
 migrate-contacts-requires c κs =
@@ -58,7 +58,7 @@ returns-2 c =
     let o = k .before .before in
     let e = o .before .before in
     let m = migrated-in-two _ _ _ _ _ _ (k .contact-count .ensures .0) (t .migrate-contacts .ensures) (p .channel-place .ensures .0) (n .channel-count .ensures .0) (s .migrate-channels .ensures) in
-    (rw (o .counts-of .ensures, valid e), left-migrated _ _ (valid e) m)
+    (rw (o .counts-of .ensures, valid e), left-migrated _ _ _ (valid e) m)
 
 pub migrate-spec : {M : Type 1} → statement M
 migrate-spec =

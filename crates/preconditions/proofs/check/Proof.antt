@@ -7,10 +7,10 @@ use Rattle.preconditions.proofs.check.Statement.{statement}
 use Rattle.preconditions.proofs.check.Tie as tie
 
 returns : tie.Need-returns
-returns c = let e = c .before .before .before .args in preconditions-room (e .room .now) (e .len) (e .history .now) (e .used) (omega arith)
+returns c = let e = c .before .before .before .args in preconditions-room _ (e .room .now) (e .len) (e .history .now) (e .used) (omega arith)
 
 returns-2 : tie.Need-returns-2
-returns-2 c = let e = c .before .before .before .before .args in preconditions-history (e .room .now) (e .len) (e .history .now) (e .used) (omega arith) (omega arith)
+returns-2 c = let e = c .before .before .before .before .args in preconditions-history _ (e .room .now) (e .len) (e .history .now) (e .used) (omega arith) (omega arith)
 
 slice-aggregate-validity-of : tie.Need-slice-aggregate-validity-of
 slice-aggregate-validity-of c = simp length-take (omega arith)
@@ -21,7 +21,7 @@ slice-aggregate-whole-entries c = simp length-take (omega arith)
 returns-3 : tie.Need-returns-3
 returns-3 c =
     let e = c .before .before .before .before .before .before .before .before .before .args in
-    preconditions-both (e .room .now) (e .len) (e .history .now) (e .used) _ _ _ (omega arith) (omega arith) (c .before .before .before .validity-of .ensures)
+    preconditions-both _ (e .room .now) (e .len) (e .history .now) (e .used) _ _ _ (omega arith) (omega arith) (c .before .before .before .validity-of .ensures)
     (c .before .whole-entries .ensures) (c .first .ensures)
 
 pub check-spec : {M : Type 1} → statement M

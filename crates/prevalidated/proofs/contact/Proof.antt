@@ -14,7 +14,7 @@ answer-requires c κs = λ g. c .contact-bytes .ensures .1 g
 returns : tie.Need-returns
 returns c =
     let v = c .before .before .contact-validity .ensures in
-    c .answer .ensures ∙ contact-read-prevalidated _ _ _ _ (v .0) (c .before .contact-bytes .ensures .0)
+    c .answer .ensures ∙ contact-read-prevalidated _ _ _ _ _ (v .0) (c .before .contact-bytes .ensures .0)
 
 pub contact-spec : {M : Type 1} → statement M
 contact-spec =

@@ -22,7 +22,7 @@ returns-2 c =
     let h : a .n < contactCount (a .f .now) = omega arith in
     let p = e .contact-place .ensures .0 in (
       rw (c .contact-at .ensures, p, place-below (a .n) (contactCount (a .f .now)) _ h),
-      λ g. (omega arith, rw (← p) (contact-whole _ (e .contact-place .result) (sym (c .contact-at .ensures) ∙ g))),
+      λ g. (omega arith, rw (← p) (contact-whole _ _ (e .contact-place .result) (sym (c .contact-at .ensures) ∙ g))),
     )
 
 pub contact-validity-spec : {M : Type 1} → statement M

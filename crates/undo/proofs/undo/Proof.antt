@@ -8,7 +8,7 @@ use Rattle.undo.proofs.undo.Tie as tie
 returns : tie.Need-returns
 returns c =
     let e = c .before .before .before .before .before .before .before .before .args in
-    undo-refused (e .room .now) (e .len) (e .history .now) (e .used) _ _ (c .before .before .before .check .ensures) (c .before .n .given .1)
+    undo-refused _ (e .room .now) (e .len) (e .history .now) (e .used) _ _ (c .before .before .before .check .ensures) (c .before .n .given .1)
 
 enum-told : tie.Need-enum-told
 enum-told c = search needs

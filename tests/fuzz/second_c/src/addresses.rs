@@ -4,21 +4,22 @@ use codeplug::c::{DecodeAnswer, EncodeAnswer};
 use obcf_second::address::{self, Address};
 use obcf_second::tone::TONES;
 
+use crate::edition::edition_of;
 use crate::refused::FromRefusal;
 use crate::slices::{buffer, bytes};
 
 #[no_mangle]
-pub unsafe extern "C" fn second_encode_callsign(text: *const u8, length: usize) -> EncodeAnswer {
-    match address::text_to_number(unsafe { bytes(text, length) }) {
+pub unsafe extern "C" fn second_encode_callsign(text: *const u8, length: usize, edition: u32) -> EncodeAnswer {
+    match address::text_to_number(unsafe { bytes(text, length) }, edition_of(edition)) {
         Err(refusal) => EncodeAnswer::refused(refusal),
         Ok(number) => EncodeAnswer { address: number, ..EncodeAnswer::default() },
     }
 }
 
 #[no_mangle]
-pub unsafe extern "C" fn second_decode_address(number: u64, out: *mut u8, size: usize) -> DecodeAnswer {
+pub unsafe extern "C" fn second_decode_address(number: u64, out: *mut u8, size: usize, edition: u32) -> DecodeAnswer {
     let out = unsafe { buffer(out, size) };
-    match address::number_to_text(number, out) {
+    match address::number_to_text(number, out, edition_of(edition)) {
         Err(refusal) => DecodeAnswer::refused(refusal),
         Ok(Address::Broadcast) => DecodeAnswer { broadcast: 1, ..DecodeAnswer::default() },
         Ok(Address::Callsign(_)) => {

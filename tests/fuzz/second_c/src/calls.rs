@@ -5,6 +5,7 @@ use obcf_second::edit::{self, Answer, Edit};
 use obcf_second::history;
 use obcf_second::Refusal;
 
+use crate::edition::edition_of;
 use crate::refused::FromRefusal;
 use crate::slices::{buffer, bytes};
 
@@ -29,11 +30,12 @@ pub unsafe extern "C" fn second_edit(
     second: usize,
     record: *const u8,
     record_length: usize,
+    edition: u32,
 ) -> EditAnswer {
     let (room, history) = unsafe { (buffer(room, room_size), buffer(history, history_size)) };
     let record = unsafe { bytes(record, record_length) }.to_vec();
     let edit = Edit { kind: kind as u64, first, second, record };
-    called(edit::edit(room, length, history, used, &edit), length, used)
+    called(edit::edit(room, length, history, used, &edit, edition_of(edition)), length, used)
 }
 
 #[no_mangle]
@@ -44,9 +46,10 @@ pub unsafe extern "C" fn second_undo(
     history: *mut u8,
     history_size: usize,
     used: usize,
+    edition: u32,
 ) -> EditAnswer {
     let (room, history) = unsafe { (buffer(room, room_size), buffer(history, history_size)) };
-    called(edit::undo(room, length, history, used), length, used)
+    called(edit::undo(room, length, history, used, edition_of(edition)), length, used)
 }
 
 #[no_mangle]

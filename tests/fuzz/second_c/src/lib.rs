@@ -3,6 +3,7 @@
 
 mod addresses;
 mod calls;
+mod edition;
 mod legacy;
 mod prevalidated;
 mod readers;

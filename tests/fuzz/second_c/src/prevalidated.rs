@@ -3,8 +3,9 @@
 
 use codeplug::c::{BankAnswer, ChannelAnswer, ContactAnswer, BankEntryAnswer};
 use obcf_second::record::{Channel, Contact, CHANNEL_SIZE, CONTACT_SIZE, NO_CONTACT, TEXT_SIZE};
-use obcf_second::{Reason, Refusal};
+use obcf_second::{Edition, Reason, Refusal};
 
+use crate::edition::edition_of;
 use crate::refused::FromRefusal;
 use crate::slices::{buffer, bytes, put_text};
 use crate::readers::{channel_common, channel_info, contact_values, with_texts};
@@ -40,10 +41,10 @@ fn moved(refusal: Refusal, by: usize) -> Refusal {
     Refusal { number: refusal.number, place: refusal.place + by }
 }
 
-fn contact(file: &[u8], n: usize) -> Result<Contact, Refusal> {
+fn contact(file: &[u8], n: usize, edition: Edition) -> Result<Contact, Refusal> {
     below(n, contacts(file))?;
     let place = HEADER_SIZE + CONTACT_SIZE * n;
-    Contact::read(from(file, place)).map_err(|r| moved(r, place))
+    Contact::read(from(file, place), edition).map_err(|r| moved(r, place))
 }
 
 fn names(file: &[u8], index: usize, mode: u8) -> bool {
@@ -102,10 +103,17 @@ fn entry(file: &[u8], n: usize, i: usize) -> Option<u16> {
 }
 
 #[no_mangle]
-pub unsafe extern "C" fn second_contact_prevalidated(file: *const u8, length: usize, n: usize, name: *mut u8, size: usize) -> ContactAnswer {
+pub unsafe extern "C" fn second_contact_prevalidated(
+    file: *const u8,
+    length: usize,
+    n: usize,
+    name: *mut u8,
+    size: usize,
+    edition: u32,
+) -> ContactAnswer {
     let (file, name) = unsafe { (bytes(file, length), buffer(name, size)) };
     with_texts(name, TEXT_SIZE, |field| {
-        let contact = contact(file, n)?;
+        let contact = contact(file, n, edition_of(edition))?;
         put_text(field, &contact.name);
         Ok(ContactAnswer { values: contact_values(&contact.info), ..ContactAnswer::default() })
     })

@@ -6,6 +6,7 @@ use obcf_second::codeplug as second;
 use obcf_second::record::{self, ContactInfo};
 use obcf_second::{Counts, Reason, Refusal};
 
+use crate::edition::edition_of;
 use crate::refused::FromRefusal;
 use crate::slices::{buffer, bytes, put_text};
 
@@ -27,15 +28,15 @@ pub fn validated(result: Result<Counts, Refusal>) -> ValidateAnswer {
 }
 
 #[no_mangle]
-pub unsafe extern "C" fn second_validate(file: *const u8, length: usize) -> ValidateAnswer {
-    validated(second::validate(unsafe { bytes(file, length) }))
+pub unsafe extern "C" fn second_validate(file: *const u8, length: usize, edition: u32) -> ValidateAnswer {
+    validated(second::validate(unsafe { bytes(file, length) }, edition_of(edition)))
 }
 
 #[no_mangle]
-pub unsafe extern "C" fn second_header(file: *const u8, length: usize, texts: *mut u8, size: usize) -> HeaderAnswer {
+pub unsafe extern "C" fn second_header(file: *const u8, length: usize, texts: *mut u8, size: usize, edition: u32) -> HeaderAnswer {
     let (file, texts) = unsafe { (bytes(file, length), buffer(texts, size)) };
     with_texts(texts, 2 * TEXT, |fields| {
-        let header = second::header(file)?;
+        let header = second::header(file, edition_of(edition))?;
         put_text(&mut fields[..TEXT], &header.author);
         put_text(&mut fields[TEXT..], &header.description);
         Ok(HeaderAnswer {
@@ -58,10 +59,17 @@ pub fn contact_values(info: &ContactInfo) -> ContactValues {
 }
 
 #[no_mangle]
-pub unsafe extern "C" fn second_contact(file: *const u8, length: usize, n: usize, name: *mut u8, size: usize) -> ContactAnswer {
+pub unsafe extern "C" fn second_contact(
+    file: *const u8,
+    length: usize,
+    n: usize,
+    name: *mut u8,
+    size: usize,
+    edition: u32,
+) -> ContactAnswer {
     let (file, name) = unsafe { (bytes(file, length), buffer(name, size)) };
     with_texts(name, TEXT, |field| {
-        let contact = second::contact(file, n)?;
+        let contact = second::contact(file, n, edition_of(edition))?;
         put_text(field, &contact.name);
         Ok(ContactAnswer { values: contact_values(&contact.info), ..ContactAnswer::default() })
     })
@@ -115,10 +123,17 @@ pub fn channel_info(info: &record::ChannelInfo) -> ChannelInfo {
 }
 
 #[no_mangle]
-pub unsafe extern "C" fn second_channel(file: *const u8, length: usize, n: usize, texts: *mut u8, size: usize) -> ChannelAnswer {
+pub unsafe extern "C" fn second_channel(
+    file: *const u8,
+    length: usize,
+    n: usize,
+    texts: *mut u8,
+    size: usize,
+    edition: u32,
+) -> ChannelAnswer {
     let (file, texts) = unsafe { (bytes(file, length), buffer(texts, size)) };
     with_texts(texts, 2 * TEXT, |fields| {
-        let channel = second::channel(file, n)?;
+        let channel = second::channel(file, n, edition_of(edition))?;
         put_text(&mut fields[..TEXT], &channel.name);
         put_text(&mut fields[TEXT..], &channel.description);
         Ok(ChannelAnswer { common: channel_common(&channel), info: channel_info(&channel.info), ..ChannelAnswer::default() })
@@ -126,18 +141,18 @@ pub unsafe extern "C" fn second_channel(file: *const u8, length: usize, n: usize
 }
 
 #[no_mangle]
-pub unsafe extern "C" fn second_bank(file: *const u8, length: usize, n: usize, name: *mut u8, size: usize) -> BankAnswer {
+pub unsafe extern "C" fn second_bank(file: *const u8, length: usize, n: usize, name: *mut u8, size: usize, edition: u32) -> BankAnswer {
     let (file, name) = unsafe { (bytes(file, length), buffer(name, size)) };
     with_texts(name, TEXT, |field| {
-        let bank = second::bank(file, n)?;
+        let bank = second::bank(file, n, edition_of(edition))?;
         put_text(field, &bank.name);
         Ok(BankAnswer { entries: bank.entry_count, ..BankAnswer::default() })
     })
 }
 
 #[no_mangle]
-pub unsafe extern "C" fn second_bank_entry(file: *const u8, length: usize, bank: usize, i: usize) -> BankEntryAnswer {
-    match second::bank_entry(unsafe { bytes(file, length) }, bank, i) {
+pub unsafe extern "C" fn second_bank_entry(file: *const u8, length: usize, bank: usize, i: usize, edition: u32) -> BankEntryAnswer {
+    match second::bank_entry(unsafe { bytes(file, length) }, bank, i, edition_of(edition)) {
         Err(refusal) => BankEntryAnswer::refused(refusal),
         Ok(channel) => BankEntryAnswer { channel, next: i + 1, ..BankEntryAnswer::default() },
     }

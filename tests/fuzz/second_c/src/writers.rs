@@ -6,8 +6,9 @@ use obcf_second::address::Address;
 use obcf_second::codeplug::write_empty;
 use obcf_second::record::{self, Contact, ContactInfo, Location, CHANNEL_SIZE, CONTACT_SIZE};
 use obcf_second::tone::Tone;
-use obcf_second::{Reason, Refusal};
+use obcf_second::{Edition, Reason, Refusal};
 
+use crate::edition::edition_of;
 use crate::refused::FromRefusal;
 use crate::slices::{buffer, bytes};
 
@@ -15,7 +16,7 @@ fn written(result: Result<(), Refusal>) -> c::Refusal {
     result.err().map_or(c::Refusal::default(), c::Refusal::refused)
 }
 
-fn write_contact(out: &mut [u8], name: &[u8], v: ContactValues) -> Result<(), Refusal> {
+fn write_contact(out: &mut [u8], name: &[u8], v: ContactValues, edition: Edition) -> Result<(), Refusal> {
     let info = match v.mode {
         2 if v.broadcast != 0 => ContactInfo::M17(Address::Broadcast),
         2 => ContactInfo::M17(Address::Callsign(v.address)),
@@ -26,11 +27,11 @@ fn write_contact(out: &mut [u8], name: &[u8], v: ContactValues) -> Result<(), Re
             }
             // The name stands before the mode.
             let named = Contact { name: name.to_vec(), info: ContactInfo::M17(Address::Broadcast) };
-            named.write(&mut [0; CONTACT_SIZE])?;
+            named.write(&mut [0; CONTACT_SIZE], edition)?;
             return Err(Refusal::at(Reason::Mode, 32));
         }
     };
-    Contact { name: name.to_vec(), info }.write(out)
+    Contact { name: name.to_vec(), info }.write(out, edition)
 }
 
 #[no_mangle]
@@ -40,9 +41,10 @@ pub unsafe extern "C" fn second_write_contact(
     name: *const u8,
     length: usize,
     values: ContactValues,
+    edition: u32,
 ) -> c::Refusal {
     let (out, name) = unsafe { (buffer(out, size), bytes(name, length)) };
-    written(write_contact(out, name, values))
+    written(write_contact(out, name, values, edition_of(edition)))
 }
 
 fn info_of(i: ChannelInfo) -> Option<record::ChannelInfo> {

@@ -8,11 +8,11 @@ use Rattle.call_lists.proofs.calls.make.Statement.{statement}
 use Rattle.call_lists.proofs.calls.make.Tie as tie
 
 abbrev Inv-loop : tie.InvT-loop
-Inv-loop calls room₀ room-length history₀ history-length k₀ len₀ used₀ room history k len used =
+Inv-loop calls room₀ room-length history₀ history-length edition k₀ len₀ used₀ room history k len used =
     (length room ≡ length room₀) × (length history ≡ length history₀)
 
 abbrev μ-loop : tie.MeasureT-loop
-μ-loop calls room₀ room-length history₀ history-length k₀ len₀ used₀ room history k len used = length calls - k
+μ-loop calls room₀ room-length history₀ history-length edition k₀ len₀ used₀ room history k len used = length calls - k
 
 pub make-spec : {M : Type 1} → statement M
 make-spec =

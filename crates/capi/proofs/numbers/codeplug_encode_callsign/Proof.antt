@@ -4,7 +4,7 @@ use Rattle.capi.proofs.numbers.codeplug_encode_callsign.Statement.{stat
 use Rattle.capi.proofs.numbers.codeplug_encode_callsign.Tie as tie
 
 returns : tie.Need-returns
-returns c = rw (← c .before .encode .ensures) (c .encode-answer .ensures)
+returns c = rw (← c .before .before .edition-of .ensures, ← c .before .encode .ensures) (c .encode-answer .ensures)
 
 pub codeplug-encode-callsign-spec : {M : Type 1} → statement M
-codeplug-encode-callsign-spec = tie.close (tie.spec (search needs) (search needs) returns)
+codeplug-encode-callsign-spec = tie.close (tie.spec (search needs) (search needs) (search needs) returns)

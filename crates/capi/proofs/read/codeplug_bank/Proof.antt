@@ -14,8 +14,9 @@ returns : tie.Need-returns
 returns c =
     let b = c .before .before .before in
     let v = b .before .before .bank-validity .ensures in
-    let a = b .before .before .before .before .before .args in
-    rw (← bank-read (a .file .now) (a .n) _ _ (v .0) (v .1) (b .bank-bytes .ensures .0)) (c .before .before .bank-out .ensures)
+    let e = b .before .before .before in
+    let a = e .before .before .before .args in
+    rw (← e .edition-of .ensures, ← bank-read _ (a .file .now) (a .n) _ _ (v .0) (v .1) (b .bank-bytes .ensures .0)) (c .before .before .bank-out .ensures)
 
 pub codeplug-bank-spec : {M : Type 1} → statement M
-codeplug-bank-spec = tie.close (tie.spec (search needs) bank-bytes-requires bank-out-requires (search needs) returns)
+codeplug-bank-spec = tie.close (tie.spec (search needs) (search needs) bank-bytes-requires bank-out-requires (search needs) returns)

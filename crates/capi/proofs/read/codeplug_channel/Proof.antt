@@ -14,8 +14,9 @@ returns : tie.Need-returns
 returns c =
     let b = c .before .before .before in
     let v = b .before .before .channel-validity .ensures in
-    let a = b .before .before .before .before .before .args in
-    rw (← channel-read (a .file .now) (a .n) _ _ (v .0) (b .channel-bytes .ensures .0)) (c .before .before .channel-out .ensures)
+    let e = b .before .before .before in
+    let a = e .before .before .before .args in
+    rw (← e .edition-of .ensures, ← channel-read _ (a .file .now) (a .n) _ _ (v .0) (b .channel-bytes .ensures .0)) (c .before .before .channel-out .ensures)
 
 pub codeplug-channel-spec : {M : Type 1} → statement M
-codeplug-channel-spec = tie.close (tie.spec (search needs) channel-bytes-requires channel-out-requires (search needs) returns)
+codeplug-channel-spec = tie.close (tie.spec (search needs) (search needs) channel-bytes-requires channel-out-requires (search needs) returns)

@@ -14,8 +14,9 @@ returns : tie.Need-returns
 returns c =
     let b = c .before .before .before in
     let v = b .before .before .contact-validity .ensures in
-    let a = b .before .before .before .before .before .args in
-    rw (← contact-read (a .file .now) (a .n) _ _ (v .0) (b .contact-bytes .ensures .0)) (c .before .before .contact-out .ensures)
+    let e = b .before .before .before in
+    let a = e .before .before .before .args in
+    rw (← e .edition-of .ensures, ← contact-read _ (a .file .now) (a .n) _ _ (v .0) (b .contact-bytes .ensures .0)) (c .before .before .contact-out .ensures)
 
 pub codeplug-contact-spec : {M : Type 1} → statement M
-codeplug-contact-spec = tie.close (tie.spec (search needs) contact-bytes-requires contact-out-requires (search needs) returns)
+codeplug-contact-spec = tie.close (tie.spec (search needs) (search needs) contact-bytes-requires contact-out-requires (search needs) returns)

@@ -9,7 +9,9 @@ header-out-requires c κs = λ g. c .header-validity .ensures .1 g
 
 returns : tie.Need-returns
 unfolding headerRead
-returns c = rw (← c .before .before .before .header-validity .ensures .0) (c .before .before .header-out .ensures)
+returns c =
+    let v = c .before .before .before in
+    rw (← v .before .edition-of .ensures, ← v .header-validity .ensures .0) (c .before .before .header-out .ensures)
 
 pub codeplug-header-spec : {M : Type 1} → statement M
-codeplug-header-spec = tie.close (tie.spec (search needs) header-out-requires (search needs) returns)
+codeplug-header-spec = tie.close (tie.spec (search needs) (search needs) header-out-requires (search needs) returns)

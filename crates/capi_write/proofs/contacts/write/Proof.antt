@@ -14,7 +14,7 @@ returns c =
     let i = w .before .before in
     let m = i .before .before .before .before .args .values .mode in
     let known = ⊎-elim (λ w. dmr-known m (omega arith)) (λ w. m17-known m (omega (arith, eqb-true))) (i .before .if1 .came) in
-    contact-goes _ _ _ _ _ _ _ known (i .info-from .ensures) (w .write .ensures) (c .refusal-of .ensures)
+    contact-goes _ _ _ _ _ _ _ _ known (i .info-from .ensures) (w .write .ensures) (c .refusal-of .ensures)
 
 returns-2 : tie.Need-returns-2
 returns-2 c =
@@ -23,7 +23,7 @@ returns-2 c =
     let g = u .before in
     let b = g .before .before in
     let a = b .before .before .before .before .args in
-    contact-stops (a .out .now) (a .name .now) (a .values) _ _ (mode-foreign _ (b .before .if1 .left) (eqb-false _ 2 (b .if2 .left)))
+    contact-stops _ (a .out .now) (a .name .now) (a .values) _ _ (mode-foreign _ (b .before .if1 .left) (eqb-false _ 2 (b .if2 .left)))
     (f .first2 .ensures ∙ rw (f .before .first .ensures, u .unless2 .ensures, g .given-ok .ensures, g .before .unless .ensures))
     (c .refusal-of2 .ensures)
 

@@ -26,7 +26,7 @@ offset-place-requires : tie.Need-offset-place-requires
 offset-place-requires c κs =
     let e = c .before .before in
     let a = e .before .before .before .args in
-    omega (arith, place-valid (a .f .now) (a .n) _ (sym (e .place .ensures) ∙ c .enum-told2 .given .1) .below)
+    omega (arith, place-valid _ (a .f .now) (a .n) _ (sym (e .place .ensures) ∙ c .enum-told2 .given .1) .below)
 
 returns-2 : tie.Need-returns-2
 unfolding entriesRead tablePlace
@@ -36,7 +36,7 @@ returns-2 c =
     let a = e .before .before .before .args in
     let f = a .f .now in
     let valid = sym (e .place .ensures) ∙ o .before .enum-told2 .given .1 in
-    let led = placed-leads f (a .n) _ valid (e .before .bank-count .ensures .0) in
+    let led = placed-leads _ f (a .n) _ valid (e .before .bank-count .ensures .0) in
     let p : c .before .offset-target .result ≡ bankPlace f (a .n) = c .before .offset-target .ensures .0 ∙ rw (o .offset-place .ensures .0) led in
     rw (c .entries-of2 .ensures, p, e .place .ensures, e .before .bank-count .ensures .0)
 

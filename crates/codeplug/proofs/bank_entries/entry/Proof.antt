@@ -18,7 +18,7 @@ offset-place-requires : tie.Need-offset-place-requires
 offset-place-requires c κs =
     let e = c .before .before in
     let a = e .before .before .before .args in
-    omega (arith, place-valid (a .f .now) (a .n) _ (sym (e .place .ensures) ∙ c .enum-told .given .1) .below)
+    omega (arith, place-valid _ (a .f .now) (a .n) _ (sym (e .place .ensures) ∙ c .enum-told .given .1) .below)
 
 returns : tie.Need-returns
 unfolding entryRead entryAnswer entriesRead tablePlace
@@ -28,8 +28,8 @@ returns c =
     let a = e .before .before .before .args in
     let f = a .f .now in
     let told = o .before .enum-told .given .1 in
-    let v : placeRule f (a .n) (bankCount f) ≡ Valid = rw (← e .before .bank-count .ensures .0) (sym (e .place .ensures) ∙ told) in
-    let led = placed-leads f (a .n) _ (sym (e .place .ensures) ∙ told) (e .before .bank-count .ensures .0) in
+    let v : placeRule (a .edition) f (a .n) (bankCount f) ≡ Valid = rw (← e .before .bank-count .ensures .0) (sym (e .place .ensures) ∙ told) in
+    let led = placed-leads _ f (a .n) _ (sym (e .place .ensures) ∙ told) (e .before .bank-count .ensures .0) in
     let p : c .before .before .offset-target .result ≡ bankPlace f (a .n) = c .before .before .offset-target .ensures .0 ∙ rw (o .offset-place .ensures .0) led in
     rw (v, c .walked .ensures, c .before .entries-of .ensures, told, p)
 

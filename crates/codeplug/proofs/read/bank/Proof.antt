@@ -14,7 +14,7 @@ bank-answer-requires c κs = λ g. c .bank-bytes .ensures .1 g
 returns : tie.Need-returns
 returns c =
     let v = c .before .before .bank-validity .ensures in
-    c .bank-answer .ensures ∙ bank-read _ _ _ _ (v .0) (v .1) (c .before .bank-bytes .ensures .0)
+    c .bank-answer .ensures ∙ bank-read _ _ _ _ _ (v .0) (v .1) (c .before .bank-bytes .ensures .0)
 
 pub bank-spec : {M : Type 1} → statement M
 bank-spec =

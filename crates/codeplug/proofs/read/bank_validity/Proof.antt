@@ -14,7 +14,7 @@ returns c =
       rw (c .place .ensures, n .0),
       λ g.
           let valid = sym (c .place .ensures) ∙ g in
-          ((omega (arith, place-valid f (a .n) _ valid .below), placed-bank f (a .n) _ valid (n .0)), placed-leads f (a .n) _ valid (n .0)),
+          ((omega (arith, place-valid _ f (a .n) _ valid .below), placed-bank _ f (a .n) _ valid (n .0)), placed-leads _ f (a .n) _ valid (n .0)),
     )
 
 pub bank-validity-spec : {M : Type 1} → statement M

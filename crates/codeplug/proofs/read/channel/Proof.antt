@@ -15,7 +15,7 @@ answer-requires c κs = λ g. omega (arith, c .channel-bytes .ensures .1 g)
 returns : tie.Need-returns
 returns c =
     let v = c .before .before .channel-validity .ensures in
-    c .answer .ensures ∙ channel-read _ _ _ _ (v .0) (c .before .channel-bytes .ensures .0)
+    c .answer .ensures ∙ channel-read _ _ _ _ _ (v .0) (c .before .channel-bytes .ensures .0)
 
 pub channel-spec : {M : Type 1} → statement M
 channel-spec =

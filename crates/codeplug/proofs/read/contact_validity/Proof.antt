@@ -14,7 +14,7 @@ returns c =
       rw (c .place .ensures, n .0),
       λ g.
           let valid = sym (c .place .ensures) ∙ g in
-          (omega (arith, place-valid (a .f .now) (a .n) _ valid .below), placed-contact (a .f .now) (a .n) _ valid (n .0)),
+          (omega (arith, place-valid _ (a .f .now) (a .n) _ valid .below), placed-contact _ (a .f .now) (a .n) _ valid (n .0)),
     )
 
 pub contact-validity-spec : {M : Type 1} → statement M

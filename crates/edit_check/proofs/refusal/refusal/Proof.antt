@@ -15,7 +15,7 @@ record-bytes c i = c .shared-slice-known2 .given i .fits
 
 -- an accepted file is laid out as one
 file-has-layout : (c : tie.After-shared-slice-known) → HasLayout (c .before .args .f .now)
-file-has-layout c = has-layout (c .before .args .f .now) (c .before .pre) (all-bytes c)
+file-has-layout c = has-layout _ (c .before .args .f .now) (c .before .pre) (all-bytes c)
 
 -- what the edit has once the first tests let it through
 passed : (c : tie.After-enum-told2)
@@ -37,7 +37,7 @@ returns : tie.Need-returns
 returns c =
     let b = c .before .before in
     let a = b .before .before .before .args in
-    refused-early (a .k) (a .i) (a .j) (a .r .now) (a .f .now) (a .room) _ _ _ (b .early-refusal .ensures) (c .enum-told .given .1)
+    refused-early (a .k) (a .i) (a .j) (a .r .now) (a .f .now) (a .room) _ _ _ _ (b .early-refusal .ensures) (c .enum-told .given .1)
 
 result-validity-requires : tie.Need-result-validity-requires
 result-validity-requires c κs =
@@ -52,7 +52,7 @@ returns-2 c =
     let s = d .before in
     let e = s .before .before in
     let a = e .args in
-    refused-read (a .k) (a .i) (a .j) (a .r .now) (a .f .now) (a .room) _ (d .early-refusal .ensures) (t .enum-told2 .given .1)
+    refused-read (a .k) (a .i) (a .j) (a .r .now) (a .f .now) (a .room) _ _ (d .early-refusal .ensures) (t .enum-told2 .given .1)
     (all-bytes (s .before)) (record-bytes s) (e .pre) _ _ _ (b .result-validity .ensures) (c .enum-told3 .given .1)
 
 result-length-requires : tie.Need-result-length-requires
@@ -69,7 +69,7 @@ returns-3 c =
     let s = d .before in
     let e = s .before .before in
     let a = e .args in
-    refused-room (a .k) (a .i) (a .j) (a .r .now) (a .f .now) (a .room) _ (d .early-refusal .ensures) (t .enum-told2 .given .1)
+    refused-room (a .k) (a .i) (a .j) (a .r .now) (a .f .now) (a .room) _ _ (d .early-refusal .ensures) (t .enum-told2 .given .1)
     (all-bytes (s .before)) (record-bytes s) (e .pre) _ _ _ (b .result-validity .ensures) (q .enum-told4 .given .1)
     (c .before .result-length .ensures) (c .unless .ensures)
 

@@ -16,14 +16,14 @@ returns : tie.Need-returns
 returns c =
     let e = c .before .before .before .before .before .before .before .before .before .before .before .before .before .before .before .before .before .before .before .before .before .args in
     shorter-valid (e .room .now) (e .history .now) _ _ _ (e .len) (e .p) (e .k) (e .body) (e .m) _ (omega arith) (omega arith) (omega arith)
-    (omega arith) (omega arith) (c .before .before .before .before .before .before .before .before .before .before .before .before .before .before .before .before .swap .ensures) (c .before .before .before .before .before .before .before .before .before .before .rotate .ensures) (c .before .before .before .before .before .before .validity-of .ensures) _
+    (omega arith) _ (omega arith) (c .before .before .before .before .before .before .before .before .before .before .before .before .before .before .before .before .swap .ensures) (c .before .before .before .before .before .before .before .before .before .before .rotate .ensures) (c .before .before .before .before .before .before .validity-of .ensures) _
     (c .before .before .before .before .enum-told .given .1) (c .before .before .clear .ensures)
 
 returns-2 : tie.Need-returns-2
 returns-2 c =
     let e = c .before .before .before .before .before .before .before .before .before .before .before .before .before .before .before .before .before .before .before .before .before .before .before .before .before .before .before .before .args in
     let q = c .before .before .before .before .before .before .before .before .before .before .before .before .before .before .before .before .before .before .before .before .before .before .before .before .before .before .before .before .pre in
-    shorter-bad (e .room .now) (e .history .now) _ _ _ (e .len) (e .p) (e .k) (e .body) (e .m) _ (q .0 .0) (q .0 .1) (omega (arith, q)) (q .1 .1)
+    shorter-bad (e .room .now) (e .history .now) _ _ _ (e .len) (e .p) (e .k) (e .body) (e .m) _ (q .0 .0) (q .0 .1) (omega (arith, q)) (q .1 .1) _
     (q .1 .0) (c .before .before .before .before .before .before .before .before .before .before .before .before .before .before .before .before .before .before .before .before .before .before .before .swap .ensures) (c .before .before .before .before .before .before .before .before .before .before .before .before .before .before .before .before .before .rotate .ensures) (c .before .before .before .before .before .before .before .before .before .before .before .before .before .validity-of .ensures) _ _ _ _ _
     (c .before .before .before .before .before .before .before .before .before .before .before .enum-told2 .given .1) (c .before .before .before .before .before .before .before .before .before .rotate2 .ensures) (c .before .before .before .before .swap2 .ensures)
 

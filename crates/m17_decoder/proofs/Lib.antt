@@ -1,0 +1,2 @@
+-- Laws of a text that is written straight into a buffer.
+pub mod WriteLaws

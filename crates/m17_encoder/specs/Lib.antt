@@ -1,0 +1,2 @@
+-- How the code of an encoding goes about it.
+pub mod Texts
