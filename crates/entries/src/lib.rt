@@ -16,7 +16,7 @@ pub enum EntryStep {
 pub fn entry(s: &[u8], i: usize) -> EntryStep
     ensures { result ≡ entry_step s.now i }
 {
-    if i < s.len() >> 1 {
+    if i < s.len() / 2 {
         EntryStep::Entry(le16(s, i * 2), i + 1)
     } else {
         EntryStep::Refused(NO_PLACE, 0)

@@ -42,11 +42,11 @@ pub fn put_be48(dst: &mut [u8], k: usize, x: u64)
     requires { (k + 6 ≤ length dst.old) × (x < 2 ^ 48) }
     ensures { dst.new ≡ over dst.old k (big_bytes 6 x) }
 {
-    put_be24(dst, k, (x >> 24) as u32);
-    put_be24(dst, k + 3, (x & 16777215) as u32);
+    put_be24(dst, k, x / 16777216);
+    put_be24(dst, k + 3, x % 16777216);
 }
 
-fn put_be24(dst: &mut [u8], k: usize, x: u32)
+fn put_be24(dst: &mut [u8], k: usize, x: u64)
     requires { (k + 3 ≤ length dst.old) × (x < 2 ^ 24) }
     ensures { dst.new ≡ over dst.old k (big_bytes 3 x) }
 {

@@ -1,78 +1,122 @@
--- A text of one to three groups in a buffer, with its hash sign, and the answer to a number with a text.
-use Prim.Native.Nat.{ℕ, ◌+◌, ◌-◌, ◌*◌, ◌%◌, ◌/◌, ◌≤◌, ◌<◌}
+-- The text loop over a buffer: its beginnings, one byte more, and its end; the answer to a number with a text.
+use Prim.Native.Nat.{ℕ, suc, ◌+◌, ◌-◌, ◌%◌, ◌/◌, ◌≤◌, ◌<◌}
 use mathlib.Core.Path.{◌≡◌, refl, sym, ◌∙◌}
 use mathlib.Core.Bool.{true}
-use mathlib.Core.List.{List, ◌∷◌, ◌++◌, append_assoc}
+use mathlib.Core.List.{List, [], ◌∷◌, ◌++◌, append_assoc, append-nil}
+use mathlib.Core.Logic.{⊎_elim}
 use native.Mathlib.Omega.{arith}
-use lib.ListN.{length, drop, set, replicate}
-use borrow.Author.Tests.{le-ltb}
-use Rattle.fields.specs.Bytes.{over, zeros}
-use Rattle.fields.proofs.Laws.{Long, long-append, over_zero, over-then}
+use native.Mathlib.Nat.{eq-zero-or-pos}
+use native.Mathlib.Numerals.{add-one}
+use lib.ListN.{length, take, drop, set, replicate, length-set, take-append-drop}
+use lib.Seq.{take-suc-set, drop-set-lt}
+use borrow.Author.Tests.{le-ltb, ne_eqb}
 use Rattle.m17.specs.declared.Edition.{Edition}
 use Rattle.m17.specs.declared.Decoded.TheVariants as decoded
 use Rattle.m17.specs.Address.{hash_sign, first_hash, last_plain, char_of, text_up_to, text_for, is_callsign, decoding, decoded_by, decoded_into}
+use Rattle.m17.proofs.Laws.{text-zero}
 use Rattle.m17.proofs.OneToOne.{text-plain, text-hash}
-use Rattle.m17_groups.specs.Places.{full, padded}
-use Rattle.m17_groups.proofs.Laws.{text-cons, long-padded, padded-full, count-full, padded-last, count-last}
-use Rattle.m17_decoder.specs.Nine.{Written}
+use Rattle.m17_decoder.specs.Begin.{Begun, padded, while_rest}
 
--- ---- nine places, by one to three groups
+text-cons : (k n : ℕ) → 0 < n → text_up_to (suc k) n ≡ char_of (n % 40) ∷ text_up_to k (n / 40)
+unfolding text_up_to
+text-cons k n p = rw (ne_eqb n 0 (omega arith))
 
--- a number's text in groups: o and p are the buffer between the writings
-pub written_one : (n len : ℕ) (lent o out : List ℕ) → n < 64000 → 9 ≤ length lent
-    → (len ≡ length (text_up_to 3 n)) × (o ≡ over lent 0 (padded 3 n)) → out ≡ over o 3 (zeros 6) → Written n lent out len
-written_one n len lent o out low room w e = (
-  w.0 ∙ sym (count-last 6 n low),
-  over-then o out lent 0 (padded 3 n) 3 (zeros 6) (long-padded 3 n) w.1 e refl (omega arith) ∙ rw (padded-last 6 n low),
-)
+padded-zero : (k : ℕ) → padded k 0 ≡ replicate k 0
+unfolding padded
+padded-zero k = let z : k - 0 ≡ k = omega arith in rw (text-zero k, z)
 
-module _ (n : ℕ) (high : 64000 ≤ n) (lent o p out : List ℕ) (room : 9 ≤ length lent) (a : o ≡ over lent 0 (full (n % 64000))) where
-  -- what stands behind a first group of three places, and behind a second one
-  parts : (b c : List ℕ) → Long b 3 → p ≡ over o 3 b → out ≡ over p 6 c → out ≡ over lent 0 (full (n % 64000) ++ (b ++ c))
-  parts b c l e f =
-      let g : Long (full (n % 64000)) 3 = record { long = refl } in
-      let h : p ≡ over lent 0 (full (n % 64000) ++ b) = over-then o p lent 0 (full (n % 64000)) 3 b g a e refl (omega arith) in
-      over-then p out lent 0 (full (n % 64000) ++ b) 6 c (long-append g l) h f refl (omega arith)
-      ∙ rw (append_assoc (full (n % 64000)) b c)
+padded-cons : (k r : ℕ) → 0 < r → padded (suc k) r ≡ char_of (r % 40) ∷ padded k (r / 40)
+unfolding padded
+padded-cons k r p =
+    let m : suc k - suc (length (text_up_to k (r / 40))) ≡ k - length (text_up_to k (r / 40)) = omega arith in
+    rw (text-cons k r p, m)
 
-  pub written-two : (len : ℕ) → n / 64000 < 64000 → (len ≡ length (text_up_to 3 (n / 64000))) × (p ≡ over o 3 (padded 3 (n / 64000)))
-      → out ≡ over p 6 (zeros 3) → Written n lent out (3 + len)
-  written-two len low w e = (
-    rw (count-full 6 n high, count-last 3 (n / 64000) low, w.0),
-    parts (padded 3 (n / 64000)) (zeros 3) (long-padded 3 (n / 64000)) w.1 e ∙ rw (padded-full 6 n high, padded-last 3 (n / 64000) low),
-  )
+padded-step : (k r : ℕ) → padded (suc k) r ≡ while_rest r (char_of (r % 40)) ∷ padded k (r / 40)
+padded-step k r =
+    ⊎_elim
+    (λ (e : r ≡ 0). rw e (rw (padded-zero (suc k), padded-zero k)))
+    (λ (p : 0 < r). rw (ne_eqb r 0 (omega arith)) (padded-cons k r p))
+    (eq-zero-or-pos r)
 
-  pub written-three : (len : ℕ) → 64000 ≤ n / 64000 → p ≡ over o 3 (full (n / 64000 % 64000))
-      → (len ≡ length (text_up_to 3 (n / 64000 / 64000))) × (out ≡ over p 6 (padded 3 (n / 64000 / 64000))) → Written n lent out (6 + len)
-  written-three len more b w = (
-    rw (count-full 6 n high, count-full 3 (n / 64000) more, w.0) (omega arith),
-    parts (full (n / 64000 % 64000)) (padded 3 (n / 64000 / 64000)) (record { long = refl }) b w.1
-        ∙ rw (padded-full 6 n high, padded-full 3 (n / 64000) more),
-  )
+count-step : (k r : ℕ) → length (text_up_to (suc k) r) ≡ while_rest r 1 + length (text_up_to k (r / 40))
+count-step k r =
+    ⊎_elim
+    (λ (e : r ≡ 0). rw e (rw (text-zero (suc k), text-zero k)))
+    (λ p. rw (ne_eqb r 0 (omega arith), text-cons k r p) (omega arith))
+    (eq-zero-or-pos r)
 
--- ---- the whole text
+-- no hash sign: all is still to write
+pub begun-plain : (n : ℕ) (out : List ℕ) → 9 ≤ length out → n ≤ last_plain → Begun n out out 0 0 n
+begun-plain n out room p =
+    record {
+      room = room;
+      same = refl;
+      few = omega arith;
+      inside = omega arith;
+      count = rw (text-plain n p) (omega arith);
+      text = rw (text-plain n p) (unfold padded in refl);
+      behind = refl;
+    }
 
-text-over : (n : ℕ) (lent : List ℕ) → over lent 0 (padded 9 n) ≡ text_up_to 9 n ++ (replicate (9 - length (text_up_to 9 n)) 0 ++ drop 9 lent)
-text-over n lent =
-    over_zero lent (padded 9 n) ∙ rw (long-padded 9 n).long (unfold padded in append_assoc (text_up_to 9 n) (replicate (9 - length (text_up_to 9 n)) 0) (drop 9 lent))
-
--- no hash sign
-pub text-written : (n len : ℕ) (lent out : List ℕ) → n ≤ last_plain → Written n lent out len
-    → (len ≡ length (text_for n)) × (out ≡ text_for n ++ (replicate (9 - length (text_for n)) 0 ++ drop 9 lent))
-text-written n len lent out h w = rw (text-plain n h) (w.0, w.1 ∙ text-over n lent)
-
--- the hash sign over the first place
-pub hash-written : (n len : ℕ) (lent out : List ℕ) → last_plain < n → Written ((n - first_hash) * 40 + 1) lent out len
-    → (len ≡ length (text_for n)) × (set out 0 hash_sign ≡ text_for n ++ (replicate (9 - length (text_for n)) 0 ++ drop 9 lent))
-hash-written n len lent out h w =
-    let m : ℕ = n - first_hash in
+-- the hash sign, and the text behind it still to write
+pub begun-hash : (n : ℕ) (out : List ℕ) → 9 ≤ length out → last_plain < n → Begun n out (set out 0 hash_sign) 1 1 (n - first_hash)
+begun-hash n out room p =
     let k : first_hash + (n - first_hash) ≡ n = omega arith in
     let t : text_for n ≡ hash_sign ∷ text_up_to 8 (n - first_hash) = rw k at (text-hash (n - first_hash)) in
-    let q : ((n - first_hash) * 40 + 1) / 40 ≡ n - first_hash = omega arith in
-    let u : text_up_to 9 ((n - first_hash) * 40 + 1) ≡ char_of (((n - first_hash) * 40 + 1) % 40) ∷ text_up_to 8 (n - first_hash) = rw q at (text-cons 8 ((n - first_hash) * 40 + 1) (omega arith)) in
-    (rw (w.0, t, u), rw (w.1, text-over ((n - first_hash) * 40 + 1) lent, t, u))
+    let m : 9 - suc (length (text_up_to 8 (n - first_hash))) ≡ 8 - length (text_up_to 8 (n - first_hash)) = omega arith in
+    let h : 0 < length out = omega arith in
+    let j : 0 < 9 = omega arith in
+    record {
+      room = room;
+      same = length-set out 0 hash_sign;
+      few = omega arith;
+      inside = omega arith;
+      count = rw t (omega arith);
+      text = rw (t, m, take-suc-set out 0 hash_sign h) (unfold padded in refl);
+      behind = drop-set-lt 9 out 0 hash_sign j;
+    }
 
--- ---- the answer
+-- behind the ninth byte a buffer is as lent, so that it may as well be the one lent
+pub begun-again : (n : ℕ) (lent out : List ℕ) (i len rest : ℕ) → Begun n lent out i len rest → Begun n out out i len rest
+begun-again n lent out i len rest b =
+    let r : 9 ≤ length lent = b.room in
+    let s : length out ≡ length lent = b.same in
+    record { room = omega arith; same = refl; few = b.few; inside = b.inside; count = b.count; text = b.text; behind = refl }
+
+pub begun-step : (n : ℕ) (lent out : List ℕ) (i len rest : ℕ) → Begun n lent out i len rest → i < 9
+    → Begun n lent (set out i (while_rest rest (char_of (rest % 40)))) (i + 1) (len + while_rest rest 1) (rest / 40)
+begun-step n lent out i len rest b low =
+    let k : 9 - i ≡ suc (9 - (i + 1)) = omega arith in
+    let r : 9 ≤ length lent = b.room in
+    let s : length out ≡ length lent = b.same in
+    let f : len ≤ i = b.few in
+    let h : i < length out = omega arith in
+    let c : length (text_up_to (9 - i) rest) ≡ while_rest rest 1 + length (text_up_to (9 - (i + 1)) (rest / 40)) = rw k (count-step (9 - (i + 1)) rest) in
+    let q : padded (9 - i) rest ≡ while_rest rest (char_of (rest % 40)) ∷ padded (9 - (i + 1)) (rest / 40) = rw k (padded-step (9 - (i + 1)) rest) in
+    let o : while_rest rest 1 ≤ 1 = at_most rest in
+    let a = b.count in
+    record {
+      room = r;
+      same = length-set out i (while_rest rest (char_of (rest % 40))) ∙ s;
+      few = omega arith;
+      inside = omega arith;
+      count = omega arith;
+      text = rw (b.text, q, add-one, take-suc-set out i (while_rest rest (char_of (rest % 40))) h, append_assoc);
+      behind = drop-set-lt 9 out i (while_rest rest (char_of (rest % 40))) low ∙ b.behind;
+    }
+  where
+    at_most : (r : ℕ) → while_rest r 1 ≤ 1
+    at_most r = ⊎_elim (λ e. rw e (omega arith)) (λ p. rw (ne_eqb r 0 (omega arith)) (omega arith)) (eq-zero-or-pos r)
+
+pub begun-done : (n : ℕ) (lent out : List ℕ) (i len rest : ℕ) → Begun n lent out i len rest → 9 ≤ i
+    → (len ≡ length (text_for n)) × (out ≡ text_for n ++ (replicate (9 - length (text_for n)) 0 ++ drop 9 lent))
+begun-done n lent out i len rest b done =
+    let f : i ≤ 9 = b.inside in
+    let e : i ≡ 9 = omega arith in
+    let t : text_for n ++ replicate (9 - length (text_for n)) 0 ≡ take 9 out ++ [] = rw e at b.text ∙ (unfold padded text_up_to in refl) in
+    let c : length (text_for n) ≡ len + 0 = rw e at b.count ∙ (unfold text_up_to in refl) in
+    let z : take 9 out ++ [] ≡ take 9 out = append-nil (take 9 out) in
+    (omega arith, sym (take-append-drop 9 out) ∙ rw (b.behind, ← z, ← t) (append_assoc (text_for n) (replicate (9 - length (text_for n)) 0) (drop 9 lent)))
 
 pub decoding-written : (e : Edition) (lent out : List ℕ) (n len : ℕ) → 9 ≤ length lent → is_callsign e n ≡ true
     → (len ≡ length (text_for n)) × (out ≡ text_for n ++ (replicate (9 - length (text_for n)) 0 ++ drop 9 lent))

@@ -1,2 +1,2 @@
 -- How the code of a decoding goes about it.
-pub mod Nine
+pub mod Begin

@@ -1,83 +1,66 @@
-// An address number to its callsign's text (document 01, "M17 addresses"; document 02, [9] and [10]).
-ghost use Rattle.std.specs.Prelude.{◌≡◌, ◌++◌, ◌-◌, ◌^◌, ◌<◌, ◌≤◌, length, drop, replicate};
-ghost use Rattle.m17.specs.Address.{char_of, decoding, decoded_into, last_hash, text_for};
-ghost use Rattle.m17_decoder.specs.Nine.{Written, plain_of};
+// An address number to its callsign's text (document 01, "M17 addresses"; document 02, [10]).
+mod table; // table.rt: the characters of digits
+
+ghost use Rattle.std.specs.Prelude.{◌≡◌, ◌++◌, ◌-◌, ◌<◌, ◌≤◌, length, drop, replicate};
+ghost use Rattle.m17.specs.Address.{char_of, decoding, decoded_into, text_for};
+ghost use Rattle.m17_decoder.specs.Begin.{Begun, while_rest};
 ghost use Rattle.fields.specs.Table.{Table};
 
-use buffers::block::clear;
 use format::refusals::{ADDRESS_NUMBER, CALLSIGN_BUFFER};
 use m17::{BROADCAST, Decoded, Edition, FIRST_HASH, LAST_PLAIN, is_callsign};
-use m17_digits::groups_of;
-use m17_groups::table::characters;
-use m17_groups::{write_full, write_last};
 
-// A text of up to three characters.
-fn write_one(table: &[u8; 40], out: &mut [u8], n: u32) -> usize
-    requires { Table char_of 0 40 table.now × (9 ≤ length out.old) × (n < 64000) × (0 < n) }
-    ensures { Written n out.old out.new result }
+// The character of a digit below 40, by the table of characters.
+fn character(characters: &[u8; 40], d: u8) -> u8
+    requires { (d < 40) × Table char_of 0 40 characters.now }
+    ensures { result ≡ char_of d }
 {
-    let len = write_last(table, out, 0, n);
-    clear(out, 3, 6);
-    len
+    characters[d as usize]
 }
 
-// A text of four to six characters.
-fn write_two(table: &[u8; 40], out: &mut [u8], n: u32) -> usize
-    requires { Table char_of 0 40 table.now × (9 ≤ length out.old) × (n < 40 ^ 6) × (64000 ≤ n) }
-    ensures { Written n out.old out.new result }
+// A value where there is a rest to write, else 0.
+fn while_rest(rest: u64, value: u8) -> u8
+    ensures { result ≡ while_rest rest value }
 {
-    write_full(table, out, 0, n % 64_000);
-    let len = write_last(table, out, 3, n / 64_000);
-    clear(out, 6, 3);
-    3 + len
+    if rest == 0 { 0 } else { value }
 }
 
-// A text of seven to nine characters.
-fn write_three(table: &[u8; 40], out: &mut [u8], n: u64) -> usize
-    requires { Table char_of 0 40 table.now × (9 ≤ length out.old) × (n < 40 ^ 9) × (40 ^ 6 ≤ n) }
-    ensures { Written n out.old out.new result }
-{
-    let groups = groups_of(n);
-    write_full(table, out, 0, groups.low);
-    write_full(table, out, 3, groups.middle);
-    6 + write_last(table, out, 6, groups.high)
+// Where a text that is begun goes on: how many characters are written, and the number whose text is to follow.
+#[derive(Drop)]
+struct Start {
+    len: usize,
+    rest: u64,
 }
 
-// The text of a number below 40^9 and zeros after it, into the first nine bytes; how many characters there are. Within the last group no branch hangs on where the text ends.
-fn write_plain(n: u64, out: &mut [u8]) -> usize
-    requires { (9 ≤ length out.old) × (n < 40 ^ 9) × (0 < n) }
-    ensures { Written n out.old out.new result }
-{
-    let table = characters();
-    if n < 64_000 {
-        return write_one(&table, out, n as u32);
-    }
-    if n < 4_096_000_000 {
-        return write_two(&table, out, n as u32);
-    }
-    write_three(&table, out, n)
-}
-
-// The number below 40^9 that has n's text, with an A where a hash address has its sign.
-fn plain_of(n: u64) -> u64
-    requires { (n ≤ last_hash) × (0 < n) }
-    ensures { (result ≡ plain_of n) × (result < 40 ^ 9) × (0 < result) }
+// How a number's text begins: a hash address's with its hash sign, any other with nothing yet.
+fn begin(n: u64, out: &mut [u8]) -> Start
+    requires { 9 ≤ length out.old }
+    ensures { Begun n out.old out.new result.len result.len result.rest }
 {
     if n <= LAST_PLAIN {
-        n
-    } else {
-        (n - FIRST_HASH) * 40 + 1
+        return Start { len: 0, rest: n };
+    }
+    out[0] = b'#';
+    Start {
+        len: 1,
+        rest: n - FIRST_HASH,
     }
 }
 
-// A number's text and zeros after it, into the first nine bytes; how many characters there are.
+// A number's text and zeros after it, into the first nine bytes; how many characters there are. No branch hangs on where the text ends.
 fn write_text(n: u64, out: &mut [u8]) -> usize
-    requires { (9 ≤ length out.old) × (n ≤ last_hash) × (0 < n) }
+    requires { 9 ≤ length out.old }
     ensures { (result ≡ length (text_for n)) × (out.new ≡ text_for n ++ (replicate (9 - length (text_for n)) 0 ++ drop 9 out.old)) }
 {
-    let len = write_plain(plain_of(n), out);
-    if LAST_PLAIN < n {
-        out[0] = b'#';
+    let characters = table::characters();
+    let start = begin(n, out);
+    let mut i = start.len;
+    let mut len = start.len;
+    let mut rest = start.rest;
+    while i < 9 {
+        out[i] = while_rest(rest, character(&characters, (rest % 40) as u8));
+        len += while_rest(rest, 1) as usize;
+        rest = rest / 40;
+        i += 1;
     }
     len
 }

@@ -74,12 +74,11 @@ pub fn put_number(d: &mut [u8], k: usize, x: usize)
         d[k] = x as u8;
         return;
     }
-    let n = x as u32; // at most 21 bits, and no division is wider than 32 (document 02, [9])
-    d[k] = (128 + n % 128) as u8;
-    if n < 16384 {
-        d[k + 1] = (n / 128) as u8;
+    d[k] = (128 + x % 128) as u8;
+    if x < 16384 {
+        d[k + 1] = (x / 128) as u8;
         return;
     }
-    d[k + 1] = (128 + n / 128 % 128) as u8;
-    d[k + 2] = (n / 16384) as u8;
+    d[k + 1] = (128 + x / 128 % 128) as u8;
+    d[k + 2] = (x / 16384) as u8;
 }

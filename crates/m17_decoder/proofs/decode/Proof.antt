@@ -1,8 +1,7 @@
 -- Each return is one of the definition's answers, with what it leaves in the buffer.
 use mathlib.Core.Path.{sym, ◌∙◌}
-use Rattle.m17.proofs.Laws.{callsign-range, decoding-short, decoding-broadcast, decoding-invalid}
+use Rattle.m17.proofs.Laws.{decoding-short, decoding-broadcast, decoding-invalid}
 use Rattle.m17_decoder.proofs.WriteLaws.{decoding-written}
-use native.Mathlib.Omega.{arith}
 use borrow.Author.Rules.{rules}
 use Rattle.m17_decoder.proofs.decode.Statement.{statement}
 use Rattle.m17_decoder.proofs.decode.Tie as tie
@@ -11,11 +10,6 @@ returns : tie.Need-returns
 returns c =
     let e = c.before.before in
     decoding-short _ e.args.out.now e.args.n c.if1.true
-
-write-text-requires : tie.Need-write-text-requires
-write-text-requires c κs =
-    let r = callsign-range _ _ (sym c.before.before.is-callsign.ensures ∙ c.before.if2.true) in
-    (omega arith, r.1, r.0)
 
 returns-2 : tie.Need-returns-2
 returns-2 c =
@@ -43,7 +37,7 @@ decode-spec =
     (tie.spec
     returns
     (search rules)
-    write-text-requires
+    (search rules)
     (search rules)
     returns-2
     returns-3

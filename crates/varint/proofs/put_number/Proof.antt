@@ -50,7 +50,6 @@ put-number-spec =
     returns
     (search rules)
     (search rules)
-    (search rules)
     slice-write-d-2
     (search rules)
     (search rules)
