@@ -3,7 +3,7 @@ ghost use Rattle.std.specs.Prelude.{◌≡◌, true};
 ghost use Rattle.bits.specs.Packed.{number_flag_of, number_flag_byte, number_flag_ok, number_flag_valid, nibbles_of, nibbles_byte, nibbles_valid, signed_of, signed_byte};
 
 // Traits and settings: a number in bits 0 and 1, a flag in bit 2 (document 02, [5]).
-#[derive(Drop)]
+#[derive(Clone, Copy)]
 pub struct NumberFlag {
     pub number: u8,
     pub flag: bool,
@@ -11,7 +11,7 @@ pub struct NumberFlag {
 
 // The two nibbles of a byte. Laid out as in C, for bindings/c/include/codeplug.h.
 #[repr(C)]
-#[derive(Drop)]
+#[derive(Clone, Copy)]
 pub struct Nibbles {
     pub high: u8,
     pub low: u8,

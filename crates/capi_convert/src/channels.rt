@@ -12,7 +12,7 @@ use format::sizes::CHANNEL_SIZE;
 use tones::{index_in, is_enabled};
 
 #[repr(C)]
-#[derive(Drop)]
+#[derive(Clone, Copy)]
 pub struct ChannelAnswer {
     pub refusal: Refusal,
     pub common: channel::Common,

@@ -8,7 +8,7 @@ use contact::ContactInfo;
 use fields::rule::Validity;
 
 #[repr(C)]
-#[derive(Drop)]
+#[derive(Clone, Copy)]
 pub struct ContactAnswer {
     pub refusal: capi_numbers::Refusal,
     pub values: ContactValues,

@@ -10,14 +10,14 @@ use layout::Counts;
 use validation::Validated;
 
 #[repr(C)]
-#[derive(Drop)]
+#[derive(Clone, Copy)]
 pub struct ValidateAnswer {
     pub refusal: Refusal,
     pub counts: Counts,
 }
 
 #[repr(C)]
-#[derive(Drop)]
+#[derive(Clone, Copy)]
 pub struct HeaderAnswer {
     pub refusal: Refusal,
     pub timestamp: u64,
@@ -25,14 +25,14 @@ pub struct HeaderAnswer {
 }
 
 #[repr(C)]
-#[derive(Drop)]
+#[derive(Clone, Copy)]
 pub struct BankAnswer {
     pub refusal: Refusal,
     pub entries: u16,
 }
 
 #[repr(C)]
-#[derive(Drop)]
+#[derive(Clone, Copy)]
 pub struct BankEntryAnswer {
     pub refusal: Refusal,
     pub channel: u16,

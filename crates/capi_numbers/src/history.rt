@@ -10,7 +10,7 @@ use journal::scan::HistoryRead;
 
 // The number of entries; 0 beside a refusal.
 #[repr(C)]
-#[derive(Drop)]
+#[derive(Clone, Copy)]
 pub struct HistoryAnswer {
     pub refusal: Refusal,
     pub entries: usize,

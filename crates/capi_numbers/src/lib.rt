@@ -13,7 +13,7 @@ use tones::{Frequency, ToneIndex};
 
 // A refusal's number, 0 for none, and its place. Every answer that is a structure begins with one.
 #[repr(C)]
-#[derive(Drop)]
+#[derive(Clone, Copy)]
 pub struct Refusal {
     pub number: u8,
     pub place: usize,
@@ -35,7 +35,7 @@ pub fn refusal_of(v: Validity) -> Refusal
 
 // Both new lengths and the number of entries left; beside a refusal the lengths as given, and 0 entries.
 #[repr(C)]
-#[derive(Drop)]
+#[derive(Clone, Copy)]
 pub struct EditAnswer {
     pub refusal: Refusal,
     pub length: usize,
@@ -65,7 +65,7 @@ pub fn edit_answer(a: Answer, length: usize, used: usize) -> EditAnswer
 
 // A callsign's address number; 0 beside a refusal.
 #[repr(C)]
-#[derive(Drop)]
+#[derive(Clone, Copy)]
 pub struct EncodeAnswer {
     pub refusal: Refusal,
     pub address: u64,
@@ -88,7 +88,7 @@ pub fn encode_answer(e: Encoded) -> EncodeAnswer
 
 // The length of an address number's text; broadcast has none.
 #[repr(C)]
-#[derive(Drop)]
+#[derive(Clone, Copy)]
 pub struct DecodeAnswer {
     pub refusal: Refusal,
     pub length: usize,
@@ -138,7 +138,7 @@ pub fn index_number(i: ToneIndex) -> u8
 // A contact but for its name. Mode 1 is DMR (id, kind, rx tone), mode 2 is M17 (address, broadcast); the other mode's numbers are 0 in what is
 // read, and unread in what is written.
 #[repr(C)]
-#[derive(Drop)]
+#[derive(Clone, Copy)]
 pub struct ContactValues {
     pub address: u64,
     pub id: u32,
@@ -151,7 +151,7 @@ pub struct ContactValues {
 // A channel's info. Mode 0 is FM (the tones), 1 DMR (colours, slot, contact), 2 M17 (access, operation, encryption, position, contact). Of
 // colours and access the high nibble is for receive, the low for transmit.
 #[repr(C)]
-#[derive(Drop)]
+#[derive(Clone, Copy)]
 pub struct ChannelInfo {
     pub contact: u16,
     pub mode: u8,

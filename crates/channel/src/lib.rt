@@ -19,7 +19,7 @@ pub const WIDE: u8 = 2;
 
 // Laid out as in C, for bindings/c/include/codeplug.h: so are Location and Common.
 #[repr(C)]
-#[derive(Drop)]
+#[derive(Clone, Copy)]
 pub struct Traits {
     pub bandwidth: u8,
     pub receive_only: bool,
@@ -27,7 +27,7 @@ pub struct Traits {
 
 // Degrees: a floor and ten-thousandths above it. The altitude is in metres plus 500, as the file has it.
 #[repr(C)]
-#[derive(Drop)]
+#[derive(Clone, Copy)]
 pub struct Location {
     pub latitude_e4: u16,
     pub longitude_e4: u16,
@@ -38,7 +38,7 @@ pub struct Location {
 
 // What a channel has whatever its mode, but for its texts. Frequencies are in hertz.
 #[repr(C)]
-#[derive(Drop)]
+#[derive(Clone, Copy)]
 pub struct Common {
     pub receive_hz: u32,
     pub transmit_hz: u32,
@@ -50,20 +50,20 @@ pub struct Common {
 }
 
 // The contact that a channel calls, or none: a blank is not contact 0.
-#[derive(Drop)]
+#[derive(Clone, Copy)]
 pub enum ContactIndex {
     Nobody,
     Index(u16),
 }
 
-#[derive(Drop)]
+#[derive(Clone, Copy)]
 pub struct FmInfo {
     pub receive: Tone,
     pub transmit: Tone,
 }
 
 // Colour codes: receive in the high nibble.
-#[derive(Drop)]
+#[derive(Clone, Copy)]
 pub struct DmrInfo {
     pub colours: Nibbles,
     pub slot: u8,
@@ -71,7 +71,7 @@ pub struct DmrInfo {
 }
 
 // Channel access numbers: receive in the high nibble. Operation: 1 voice, 2 data, 3 both. Encryption: 0 plain, 1 AES-256, 2 scrambler.
-#[derive(Drop)]
+#[derive(Clone, Copy)]
 pub struct M17Info {
     pub access: Nibbles,
     pub operation: u8,
@@ -80,7 +80,7 @@ pub struct M17Info {
     pub contact: ContactIndex,
 }
 
-#[derive(Drop)]
+#[derive(Clone, Copy)]
 pub enum Info {
     Fm(FmInfo),
     Dmr(DmrInfo),
@@ -88,7 +88,7 @@ pub enum Info {
 }
 
 // The texts stand as in the file: a text, then zeros.
-#[derive(Drop)]
+#[derive(Clone, Copy)]
 pub struct Channel {
     pub name: [u8; 32],
     pub description: [u8; 32],

@@ -14,7 +14,7 @@ use format::sizes::{DMR_CONTACT_AT, M17_CONTACT_AT};
 use tones::{Tone, tone_of};
 
 // A reader's answer. Beside a refusal stands a blank channel.
-#[derive(Drop)]
+#[derive(Clone, Copy)]
 pub struct ChannelRead {
     pub validity: Validity,
     pub channel: Channel,

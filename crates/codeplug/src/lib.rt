@@ -7,7 +7,7 @@ use fields::rule::Validity;
 use layout::Counts;
 
 // The texts stand as in the file: a text, then zeros.
-#[derive(Drop)]
+#[derive(Clone, Copy)]
 pub struct Header {
     pub author: [u8; 32],
     pub description: [u8; 32],
@@ -16,21 +16,21 @@ pub struct Header {
 }
 
 // A reader's answer. Beside a refusal stands a blank header.
-#[derive(Drop)]
+#[derive(Clone, Copy)]
 pub struct HeaderRead {
     pub validity: Validity,
     pub header: Header,
 }
 
 // A bank's name and how many entries it has.
-#[derive(Drop)]
+#[derive(Clone, Copy)]
 pub struct Bank {
     pub name: [u8; 32],
     pub entries: u16,
 }
 
 // A reader's answer. Beside a refusal stands a blank bank.
-#[derive(Drop)]
+#[derive(Clone, Copy)]
 pub struct BankRead {
     pub validity: Validity,
     pub bank: Bank,

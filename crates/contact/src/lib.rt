@@ -15,33 +15,33 @@ pub const PRIVATE: u8 = 1;
 
 pub const ALL_CALL: u8 = 2;
 
-#[derive(Drop)]
+#[derive(Clone, Copy)]
 pub struct Settings {
     pub contact_type: u8,
     pub rx_tone: bool,
 }
 
-#[derive(Drop)]
+#[derive(Clone, Copy)]
 pub struct DmrContact {
     pub id: u32,
     pub settings: Settings,
 }
 
-#[derive(Drop)]
+#[derive(Clone, Copy)]
 pub enum ContactInfo {
     M17(Address),
     Dmr(DmrContact),
 }
 
 // The name stands as in the file: a text, then zeros.
-#[derive(Drop)]
+#[derive(Clone, Copy)]
 pub struct Contact {
     pub name: [u8; 32],
     pub info: ContactInfo,
 }
 
 // A reader's answer. Beside a refusal stands a blank contact.
-#[derive(Drop)]
+#[derive(Clone, Copy)]
 pub struct ContactRead {
     pub validity: Validity,
     pub contact: Contact,

@@ -6,7 +6,7 @@ use fields::numbers::le16;
 use format::refusals::NO_PLACE;
 
 // A bank entry: the channel's index, and the place of the next entry. Past the last entry: 33.
-#[derive(Drop)]
+#[derive(Clone, Copy)]
 pub enum EntryStep {
     Entry(u16, usize),
     Refused(u8, usize),

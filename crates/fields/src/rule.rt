@@ -5,7 +5,7 @@ ghost use Rattle.fields.specs.Rule.{◌then◌, unless, field_of};
 use format::refusals::CUT;
 
 // Whether something is valid. A refusal, document 01's word for an error, has its number there and its place.
-#[derive(Drop)]
+#[derive(Clone, Copy)]
 pub enum Validity {
     Valid,
     Refused(u8, usize),

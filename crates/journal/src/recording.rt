@@ -11,7 +11,7 @@ use fields::put::put;
 use varint::{number_length, put_number};
 
 // A change: k new bytes stand at p in place of m old ones.
-#[derive(Drop)]
+#[derive(Clone, Copy)]
 pub struct Span {
     pub place: usize,
     pub put: usize,

@@ -7,7 +7,7 @@ ghost use Rattle.journal.specs.Scan.{head_of, run_of};
 use varint::{NumberRead, number_at};
 
 // Where an entry's parts stand: its place and lengths, its old bytes' place and the place after it.
-#[derive(Drop)]
+#[derive(Clone, Copy)]
 pub struct EntryHead {
     pub place: usize,
     pub put: usize,
@@ -16,21 +16,21 @@ pub struct EntryHead {
     pub next: usize,
 }
 
-#[derive(Drop)]
+#[derive(Clone, Copy)]
 pub enum EntryRead {
     Entry(EntryHead),
     Broken,
 }
 
 // How many whole entries bytes hold.
-#[derive(Drop)]
+#[derive(Clone, Copy)]
 pub enum HistoryRead {
     Entries(usize),
     Broken,
 }
 
 // A run of entries: how many bytes and how many entries.
-#[derive(Drop)]
+#[derive(Clone, Copy)]
 pub struct Run {
     pub bytes: usize,
     pub entries: usize,

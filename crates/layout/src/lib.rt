@@ -3,7 +3,7 @@ pub mod places; // places.rt: counts and places
 
 // Laid out as in C, for bindings/c/include/codeplug.h.
 #[repr(C)]
-#[derive(Drop)]
+#[derive(Clone, Copy)]
 pub struct Counts {
     pub contacts: u16,
     pub channels: u16,

@@ -4,7 +4,7 @@ ghost use Rattle.m17.specs.Edition.{edition_of};
 ghost use Rattle.m17.specs.Address.{address_ok, address_for, address_number, address_valid, is_broadcast, is_callsign, last_of};
 
 // By which edition of the M17 specification addresses are read: the newer has hash addresses.
-#[derive(Drop)]
+#[derive(Clone, Copy)]
 pub enum Edition {
     Older,
     Newer,
@@ -25,7 +25,7 @@ pub fn edition_of(n: u32) -> Edition
 }
 
 // What an address field of a contact means.
-#[derive(Drop)]
+#[derive(Clone, Copy)]
 pub enum Address {
     // A callsign, by its number: 1 to 262,143,999,999,999. By the newer edition a hash address too: 262,144,000,000,000 to 268,697,599,999,999.
     Callsign(u64),
@@ -33,14 +33,14 @@ pub enum Address {
 }
 
 // A text's number, or a refusal and its place.
-#[derive(Drop)]
+#[derive(Clone, Copy)]
 pub enum Encoded {
     Number(u64),
     Refused(u8, usize),
 }
 
 // A number's text, by its length in the buffer; broadcast has none; or a refusal and its place.
-#[derive(Drop)]
+#[derive(Clone, Copy)]
 pub enum Decoded {
     Text(usize),
     Broadcast,

@@ -25,7 +25,7 @@ fn while_rest(rest: u64, value: u8) -> u8
 }
 
 // Where a text that is begun goes on: how many characters are written, and the number whose text is to follow.
-#[derive(Drop)]
+#[derive(Clone, Copy)]
 struct Start {
     len: usize,
     rest: u64,

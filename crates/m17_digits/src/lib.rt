@@ -2,7 +2,7 @@
 ghost use Rattle.std.specs.Prelude.{◌≡◌, ◌<◌, ◌/◌, ◌%◌, ◌^◌};
 
 // The three groups of a number, by their place in it.
-#[derive(Drop)]
+#[derive(Clone, Copy)]
 pub struct Groups {
     pub low: u32,
     pub middle: u32,
@@ -25,7 +25,7 @@ pub fn groups_of(n: u64) -> Groups
 }
 
 // The three digits of a group, the first character's first.
-#[derive(Drop)]
+#[derive(Clone, Copy)]
 pub struct Digits {
     pub first: u8,
     pub second: u8,

@@ -36,7 +36,7 @@ fn first_foreign(s: &[u8]) -> usize
 }
 
 // What a text comes to: its number, unless a character is foreign.
-#[derive(Drop)]
+#[derive(Clone, Copy)]
 enum Sum {
     Number(u64),
     Foreign,

@@ -9,7 +9,7 @@ use channel::ContactIndex;
 use format::sizes::{BANK_ENTRY_SIZE, CHANNEL_SIZE, CONTACT_SIZE, SET_HEADER_SIZE, TEXT_SIZE};
 
 // The twelve kinds of edits, in the order of document 01.
-#[derive(Drop)]
+#[derive(Clone, Copy)]
 pub enum Kind {
     InsertContact,
     RemoveContact,
@@ -25,7 +25,7 @@ pub enum Kind {
     SetHeader,
 }
 
-#[derive(Drop)]
+#[derive(Clone, Copy)]
 pub enum KindRead {
     Known(Kind),
     NoKind,

@@ -4,7 +4,7 @@ pub mod numbers; // numbers.rt: numbers as small arrays, and a new bank
 use renumber::shift::{Growth, Shift};
 
 // Bytes in place of the `gone` bytes at `at`, and the count at `counter` that goes with it.
-#[derive(Drop)]
+#[derive(Clone, Copy)]
 pub struct Counted {
     pub counter: usize,
     pub count: u16,
@@ -13,7 +13,7 @@ pub struct Counted {
 }
 
 // Offsets of the table, from `start` on, that move.
-#[derive(Drop)]
+#[derive(Clone, Copy)]
 pub struct Table {
     pub start: usize,
     pub many: usize,
@@ -21,13 +21,13 @@ pub struct Table {
 }
 
 // The bytes of a bank.
-#[derive(Drop)]
+#[derive(Clone, Copy)]
 pub struct Block {
     pub at: usize,
     pub size: usize,
 }
 
-#[derive(Drop)]
+#[derive(Clone, Copy)]
 pub enum Plan {
     // an edit's bytes over those at a place
     Replace(usize),

@@ -4,14 +4,14 @@ ghost use Rattle.renumber.specs.Shift.{shift_of, growth_of};
 ghost use Rattle.fields.specs.Bytes.{little_bytes};
 
 // Indexes at or past a place raised by one, or those past it lowered; 65,535 stays.
-#[derive(Drop)]
+#[derive(Clone, Copy)]
 pub enum Shift {
     Raise(usize),
     Lower(usize),
 }
 
 // Offsets of banks behind others that take so many bytes more or fewer.
-#[derive(Drop)]
+#[derive(Clone, Copy)]
 pub enum Growth {
     More(u32),
     Fewer(u32),

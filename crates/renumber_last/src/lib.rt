@@ -15,7 +15,7 @@ use format::sizes::{
 use layout::places::entry_count;
 use renumber::shift::{Shift, shifted};
 
-#[derive(Drop)]
+#[derive(Clone, Copy)]
 pub enum Last {
     Nowhere,
     At(usize),

@@ -3,21 +3,21 @@ ghost use Rattle.std.specs.Prelude.{◌≡◌, true, ◌+◌, ◌<◌};
 ghost use Rattle.tones.specs.Tone.{tone_ok, tone_of, tone_byte, tone_valid, tone_index, tone_enabled, tone_from, frequency_of, index_of};
 
 // A tone by its index in the table. A disabled tone keeps its index: a blank tone is Disabled(0), never Enabled(0).
-#[derive(Drop)]
+#[derive(Clone, Copy)]
 pub enum Tone {
     Enabled(u8),
     Disabled(u8),
 }
 
 // A tone's frequency, in tenths of a hertz.
-#[derive(Drop)]
+#[derive(Clone, Copy)]
 pub enum Frequency {
     Tenths(u16),
     NoTone,
 }
 
 // Where the table has a frequency.
-#[derive(Drop)]
+#[derive(Clone, Copy)]
 pub enum ToneIndex {
     Index(u8),
     NoIndex,

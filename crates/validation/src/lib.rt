@@ -16,7 +16,7 @@ use layout_validation::header::validate_header;
 use m17::Edition;
 
 // What validation answers: the counts of an accepted file, or the first refusal.
-#[derive(Drop)]
+#[derive(Clone, Copy)]
 pub enum Validated {
     Accepted(Counts),
     Refused(u8, usize),

@@ -4,7 +4,7 @@ ghost use Rattle.fields.specs.Bytes.{over};
 ghost use Rattle.varint.specs.Number.{number_bytes, number_at};
 
 // A number and how many bytes it takes.
-#[derive(Drop)]
+#[derive(Clone, Copy)]
 pub enum NumberRead {
     Number(usize, usize),
     Broken,
