@@ -1,0 +1,14 @@
+-- Zeros: at index i, i of them stand over d from the start of the block on.
+use native.Mathlib.Omega.{arith}
+use Prim.Native.Nat.{◌-◌, ◌≤◌}
+use mathlib.Core.Path.{◌≡◌}
+use lib.ListN.{length, length-set}
+use Rattle.fields.specs.Bytes.{over, zeros}
+use Rattle.buffers.proofs.Laws.{zeros-more, zeros-none, zeros-all}
+use Rattle.buffers.proofs.block.clear.Given as goal
+
+abbrev pub invariant-loop-i : goal.invariant-loop-i
+invariant-loop-i l = (l.i ≤ l.n) × ((length l.d ≡ length l.initial.d) × (l.d ≡ over l.initial.d l.from (zeros l.i)))
+
+abbrev pub decreases-loop-i : goal.decreases-loop-i
+decreases-loop-i l = l.n - l.i

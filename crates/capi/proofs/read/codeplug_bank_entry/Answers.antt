@@ -1,0 +1,6 @@
+-- The answer as numbers.
+use borrow.Author.Rules.{rules}
+use Rattle.capi.proofs.read.codeplug_bank_entry.Goals as goal
+
+pub returns : goal.returns
+returns c = rw (← c.edition_of.ensures, ← c.entry.ensures) c.bank_entry_answer.ensures

@@ -1,0 +1,23 @@
+-- The mode chooses the numbers.
+use Rattle.channel_reader.specs.Reading.{info_of}
+use borrow.Author.Tests.{eq-eqb, ne_eqb}
+use borrow.Author.Rules.{rules}
+use Rattle.capi_convert.proofs.channels.channel_info.Goals as goal
+
+pub returns-in-0 : goal.returns-in-0
+unfolding info_of
+returns-in-0 c =
+    let m = c in
+    rw (← m.byte_at.ensures, eq-eqb _ 0 m.in-0.is, ← c.fm_of.ensures) c.fm_info.ensures
+
+pub returns-in-1 : goal.returns-in-1
+unfolding info_of
+returns-in-1 c =
+    let m = c in
+    rw (← m.byte_at.ensures, m.in-1.is, ← c.dmr_of.ensures) c.dmr_info.ensures
+
+pub returns-in_default : goal.returns-in_default
+unfolding info_of
+returns-in_default c =
+    let m = c in
+    rw (← m.byte_at.ensures, ne_eqb _ 0 m.in-0.rest.0.1, ne_eqb _ 1 m.in-0.rest.1, ← c.m17_of.ensures) c.m17_info.ensures

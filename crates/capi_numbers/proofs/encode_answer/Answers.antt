@@ -1,0 +1,9 @@
+-- By the kind of answer.
+use borrow.Author.Rules.{rules}
+use Rattle.capi_numbers.proofs.encode_answer.Goals as goal
+
+pub returns-in-Number : goal.returns-in-Number
+returns-in-Number c = rw c.in-Number.is
+
+pub returns-in-Refused : goal.returns-in-Refused
+returns-in-Refused c = rw c.in-Refused.is

@@ -1,0 +1,6 @@
+-- The answer as numbers.
+use borrow.Author.Rules.{rules}
+use Rattle.capi_numbers.proofs.history.entries.Goals as goal
+
+pub returns : goal.returns
+returns c = rw (← c.history_entries.ensures) c.history_answer.ensures

@@ -1,0 +1,14 @@
+-- The fields as they are read.
+use Rattle.codeplug.specs.Read.{header_of}
+use borrow.Author.Rules.{rules}
+use Rattle.codeplug.proofs.read.header_of.Goals as goal
+
+pub returns : goal.returns
+unfolding header_of
+returns c =
+    rw (
+      c.le64.ensures,
+      c.bytes32-2.ensures,
+      c.bytes32.ensures,
+      c.Counts-of.ensures,
+    )

@@ -1,0 +1,70 @@
+-- The tests before the result is read, then reading it, then the room.
+use Rattle.fields.proofs.Laws.{AllBytes}
+use Rattle.model.specs.HasLayout.{HasLayout}
+use Rattle.edits.proofs.AcceptedCodeplug.{has-layout}
+use Rattle.edit_check.proofs.RefusalLaws.{Passed, early-passed, refused-early, refused-read, refused-room}
+use borrow.Author.Rules.{rules}
+use Rattle.edit_check.proofs.refusal.refusal.Goals as goal
+
+all-bytes : (c : goal.After-shared_slice_known-1) → AllBytes c.args.f.now
+all-bytes (goal.at.After-shared_slice_known-1 c).After-shared_slice_known-1 i = (c.type_inv.f i).fits
+
+record-bytes : (c : goal.After-shared_slice_known-2-1) → AllBytes c.args.r.now
+record-bytes (goal.at.After-shared_slice_known-2-1 c).After-shared_slice_known-2-1 i = (c.type_inv.r i).fits
+
+-- an accepted file is laid out as one
+file-has-layout : (c : goal.After-shared_slice_known-1) → HasLayout c.args.f.now
+file-has-layout (goal.at.After-shared_slice_known-1 c).After-shared_slice_known-1 = has-layout _ c.args.f.now c.requires (all-bytes (goal.at.After-shared_slice_known-1 c).After-shared_slice_known-1)
+
+-- what the edit has once the first tests let it through
+passed : (c : goal.In_default)
+    → Passed c.args.k c.args.i
+    c.args.j c.args.r.now
+    c.args.f.now
+passed (goal.at.In_default c).In_default =
+    let b = c in
+    let a = b.args in
+    early-passed a.k a.i a.j a.r.now a.f.now _ b.early_refusal-early.ensures c.in_default.is
+
+pub early_refusal-early-requires : goal.early_refusal-early-requires
+early_refusal-early-requires c = file-has-layout (goal.at.early_refusal-early-requires c).After-shared_slice_known-1
+
+pub returns-in-Refused : goal.returns-in-Refused
+returns-in-Refused c =
+    let b = c in
+    let a = b.args in
+    refused-early a.k a.i a.j a.r.now a.f.now a.room _ _ _ _ b.early_refusal-early.ensures c.in-Refused.is
+
+pub result_validity-read-requires : goal.result_validity-read-requires
+result_validity-read-requires c =
+    let p = passed (goal.at.result_validity-read-requires c).In_default in
+    (file-has-layout (goal.at.result_validity-read-requires c).After-shared_slice_known-1, (p.wide, p.place))
+
+pub returns-in-Refused-read : goal.returns-in-Refused-read
+returns-in-Refused-read c =
+    let b = c in
+    let t = b in
+    let d = t in
+    let s = d in
+    let e = s in
+    let a = e.args in
+    refused-read a.k a.i a.j a.r.now a.f.now a.room _ _ d.early_refusal-early.ensures t.in_default.is
+    (all-bytes (goal.at.returns-in-Refused-read s).After-shared_slice_known-1) (record-bytes (goal.at.returns-in-Refused-read s).After-shared_slice_known-2-1) e.requires _ _ _ b.result_validity-read.ensures c.in-Refused-read.is
+
+pub result_length-requires : goal.result_length-requires
+result_length-requires c =
+    let t = c in
+    (file-has-layout t, (_, (passed t).place))
+
+pub returns : goal.returns
+returns c =
+    let q = c in
+    let b = q in
+    let t = b in
+    let d = t in
+    let s = d in
+    let e = s in
+    let a = e.args in
+    refused-room a.k a.i a.j a.r.now a.f.now a.room _ _ d.early_refusal-early.ensures t.in_default.is
+    (all-bytes (goal.at.returns s).After-shared_slice_known-1) (record-bytes (goal.at.returns s).After-shared_slice_known-2-1) e.requires _ _ _ b.result_validity-read.ensures q.in_default-read.is
+    c.result_length.ensures c.unless.ensures

@@ -1,0 +1,27 @@
+-- There is a contact, so the count is not zero.
+use Prim.Native.Nat.{◌<◌}
+use Rattle.layout.specs.Places.{contact_count}
+use Rattle.fields.proofs.Laws.{AllBytes}
+use Rattle.edit_plan.proofs.PlanLaws.{remove-contact-there, remove-contact}
+use native.Mathlib.Omega.{arith}
+use borrow.Author.Rules.{rules}
+use Rattle.edit_plan.proofs.remove_contact.Goals as goal
+
+all-bytes : (c : goal.After-shared_slice_known-1) → AllBytes c.args.f.now
+all-bytes (goal.at.After-shared_slice_known-1 c).After-shared_slice_known-1 n = (c.type_inv.f n).fits
+
+there : (c : goal.After-shared_slice_known-1)
+    → (c.args.i < contact_count c.args.f.now) × (contact_count c.args.f.now < 65536)
+there (goal.at.After-shared_slice_known-1 c).After-shared_slice_known-1 = remove-contact-there c.args.f.now (all-bytes (goal.at.After-shared_slice_known-1 c).After-shared_slice_known-1) c.args.i 0 c.requires
+
+pub overflow_sub-count : goal.overflow_sub-count
+overflow_sub-count c = omega (arith, there (goal.at.overflow_sub-count c).After-shared_slice_known-1)
+
+pub contact_place-at-requires : goal.contact_place-at-requires
+contact_place-at-requires c = omega (arith, there (goal.at.contact_place-at-requires c).After-shared_slice_known-1)
+
+pub returns : goal.returns
+returns c =
+    let b = c in
+    let s = b in
+    remove-contact _ (all-bytes (goal.at.returns s).After-shared_slice_known-1) _ _ _ s.requires c.contact_place-at.ensures.0 (rw b.contact_count.ensures.0)

@@ -1,0 +1,60 @@
+-- The bank is there with its entries, and the count is not zero.
+use Prim.Native.Nat.{◌^◌, ◌<◌}
+use mathlib.Core.Path.{◌≡◌, refl, ◌∙◌}
+use lib.ListN.{length}
+use Rattle.layout.specs.Places.{bank_count}
+use Rattle.layout.specs.Banks.{entry_count, bank_place}
+use Rattle.fields.proofs.Laws.{AllBytes}
+use Rattle.layout.proofs.Laws.{bank_count-lt}
+use Rattle.edit_plan.proofs.PlanLaws.{remove-entry-there, remove_entry}
+use native.Mathlib.Omega.{arith}
+use borrow.Author.Rules.{rules}
+use Rattle.edit_plan.proofs.remove_entry.Goals as goal
+
+all-bytes : (c : goal.After-shared_slice_known-1) → AllBytes c.args.f.now
+all-bytes (goal.at.After-shared_slice_known-1 c).After-shared_slice_known-1 n = (c.type_inv.f n).fits
+
+there : (c : goal.After-shared_slice_known-1) →
+    let a = c.args in
+    let n = entry_count a.f.now (bank_place a.f.now a.i) in
+    (a.i < bank_count a.f.now) × ((a.j < n) × (n < 65536))
+there (goal.at.After-shared_slice_known-1 c).After-shared_slice_known-1 = remove-entry-there c.args.f.now (all-bytes (goal.at.After-shared_slice_known-1 c).After-shared_slice_known-1) c.args.i c.args.j c.requires
+
+short : (c : goal.After-shared_slice_known-1) → length c.args.f.now < 2 ^ 32
+short (goal.at.After-shared_slice_known-1 c).After-shared_slice_known-1 = c.requires.0.short
+
+counted : (c : goal.After-entry_count) →
+    let a = c.args in
+    c.entry_count.result ≡ entry_count a.f.now (bank_place a.f.now a.i)
+counted (goal.at.After-entry_count c).After-entry_count = c.entry_count.ensures.0 ∙ rw c.bank_place-bank.ensures.0
+
+pub bank_place-bank-requires : goal.bank_place-bank-requires
+bank_place-bank-requires c = (c.requires.0, omega (arith, there (goal.at.bank_place-bank-requires c).After-shared_slice_known-1))
+
+pub entry_count-requires : goal.entry_count-requires
+entry_count-requires c = omega (arith, short (goal.at.entry_count-requires c).After-shared_slice_known-1)
+
+pub overflow_sub-count : goal.overflow_sub-count
+overflow_sub-count c = omega (arith, there (goal.at.overflow_sub-count c).After-shared_slice_known-1, counted (goal.at.overflow_sub-count c).After-entry_count)
+
+pub overflow_add-i : goal.overflow_add-i
+overflow_add-i c =
+    let s = c in
+    omega (arith, there (goal.at.overflow_add-i s).After-shared_slice_known-1, bank_count-lt s.args.f.now (all-bytes (goal.at.overflow_add-i s).After-shared_slice_known-1))
+
+pub table_from-requires : goal.table_from-requires
+table_from-requires c = omega (arith, there (goal.at.table_from-requires c).After-shared_slice_known-1)
+
+pub overflow_mul-result : goal.overflow_mul-result
+overflow_mul-result c = omega (arith, there (goal.at.overflow_mul-result c).After-shared_slice_known-1)
+
+pub overflow_add-result-3 : goal.overflow_add-result-3
+overflow_add-result-3 c = omega (arith, there (goal.at.overflow_add-result-3 c).After-shared_slice_known-1, short (goal.at.overflow_add-result-3 c).After-shared_slice_known-1)
+
+pub returns : goal.returns
+returns c =
+    let k = c in
+    let b = k in
+    let s = b in
+    remove_entry _ (all-bytes (goal.at.returns s).After-shared_slice_known-1) _ _ _ _ _ _ s.requires b.bank_place-bank.ensures.0 (rw k.entry_count.ensures.0) refl
+    c.table_from.ensures

@@ -1,0 +1,6 @@
+-- The name, where it will stand.
+use borrow.Author.Rules.{rules}
+use Rattle.edit_result.proofs.name_bank.Goals as goal
+
+pub returns : goal.returns
+returns c = rw (c.unless.ensures, c.bank_place.ensures.0, c.text_ok.ensures)

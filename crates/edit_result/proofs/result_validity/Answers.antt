@@ -1,0 +1,11 @@
+-- The length first, then the record.
+use borrow.Author.Rules.{rules}
+use Rattle.edit_result.proofs.result_validity.Goals as goal
+
+pub record_validity-requires : goal.record_validity-requires
+record_validity-requires c =
+    c.requires
+
+pub returns : goal.returns
+returns c =
+    rw (c.first.ensures, c.may_grow.ensures) c.record_validity.ensures

@@ -1,0 +1,125 @@
+-- Refused by its own rules or for want of history, or planned, measured, recorded and made.
+use mathlib.Core.Path.{◌∙◌}
+use lib.ListN.{length, take, length-take}
+use Rattle.plan.specs.Plan.{planned}
+use Rattle.preconditions.proofs.PreconditionLaws.{preconditions-inside}
+use Rattle.editor.proofs.EditLaws.{preconditions-accepted, preconditions-has-layout, preconditions-short, Passes, passes, Planned, plans, changes, known-refused, known-full, known-made}
+use native.Mathlib.Omega.{arith}
+use borrow.Author.Rules.{rules}
+use Rattle.editor.proofs.edit_known.Goals as goal
+
+passed : (c : goal.In_default)
+    → (let e = c.args in
+    Passes e.edition e.k e.i e.j e.bytes.now (length e.room-1.now) (take e.len e.room-1.now))
+passed (goal.at.In_default c).In_default =
+    let e = c.args in
+    passes _ e.k e.i e.j e.bytes.now (length e.room-1.now) (take e.len e.room-1.now) _ c.refusal.ensures c.in_default.is
+
+plan : (c : goal.After-plan_of-plan)
+    → (let e = c.args in
+    Planned e.k e.i e.j e.bytes.now (length e.room-1.now) (take e.len e.room-1.now) c.plan_of-plan.result)
+plan (goal.at.After-plan_of-plan c).After-plan_of-plan =
+    let t = c in
+    let b = t in
+    let e = b.args in
+    plans _ e.k e.i e.j e.bytes.now (length e.room-1.now) (take e.len e.room-1.now) _ (passed t) (λ n. (b.type_inv.bytes n).fits)
+    c.plan_of-plan.ensures
+
+pub slice_bounds-refusal-end : goal.slice_bounds-refusal-end
+slice_bounds-refusal-end c =
+    let b = c in
+    (preconditions-inside _ b.args.room.now b.args.len b.args.history.now b.args.used b.requires).0
+
+pub slice_bounds-refusal-end-2 : goal.slice_bounds-refusal-end-2
+slice_bounds-refusal-end-2 c =
+    let b = c in
+    let i = preconditions-inside _ b.args.room.now b.args.len b.args.history.now b.args.used b.requires in
+    simp length-take (omega arith)
+
+pub refusal-requires : goal.refusal-requires
+refusal-requires c =
+    let b = c in
+    preconditions-accepted _ b.args.room.now b.args.len b.args.history.now b.args.used b.requires
+
+pub returns-in-Refused : goal.returns-in-Refused
+returns-in-Refused c =
+    let t = c in
+    let e = t.args in
+    known-refused _ e.k e.i e.j e.bytes.now e.room.now e.len e.history.now e.used _ t.refusal.ensures _ _
+    c.in-Refused.is
+
+pub slice_bounds-plan_of-end : goal.slice_bounds-plan_of-end
+slice_bounds-plan_of-end c =
+    let b = c in
+    (preconditions-inside _ b.args.room.now b.args.len b.args.history.now b.args.used b.requires).0
+
+pub slice_bounds-plan_of-end-2 : goal.slice_bounds-plan_of-end-2
+slice_bounds-plan_of-end-2 c =
+    let b = c in
+    let i = preconditions-inside _ b.args.room.now b.args.len b.args.history.now b.args.used b.requires in
+    simp length-take (omega arith)
+
+pub plan_of-plan-requires : goal.plan_of-plan-requires
+plan_of-plan-requires c =
+    let s = c in
+    let b = s in
+    let p = passed (goal.at.plan_of-plan-requires c).In_default in
+    (preconditions-has-layout _ b.args.room.now b.args.len b.args.history.now b.args.used b.requires (λ n. (s.type_inv.room n).fits), (p.place, p.count))
+
+pub slice_bounds-span-end : goal.slice_bounds-span-end
+slice_bounds-span-end c =
+    let b = c in
+    (preconditions-inside _ b.args.room.now b.args.len b.args.history.now b.args.used b.requires).0
+
+pub slice_bounds-span-end-2 : goal.slice_bounds-span-end-2
+slice_bounds-span-end-2 c =
+    let b = c in
+    let i = preconditions-inside _ b.args.room.now b.args.len b.args.history.now b.args.used b.requires in
+    simp length-take (omega arith)
+
+pub span-s-requires : goal.span-s-requires
+span-s-requires c =
+    let b = c in
+    let l = preconditions-short _ b.args.room.now b.args.len b.args.history.now b.args.used b.requires in
+    ((plan (goal.at.span-s-requires c).After-plan_of-plan).fits, omega arith)
+
+pub entry_size-requires : goal.entry_size-requires
+entry_size-requires c =
+    let x = c in
+    let b = x in
+    let e = b.args in
+    (changes e.room.now e.len e.history.now e.used (planned x.plan_of-plan.result e.bytes.now (take e.len e.room.now)) _ _ b.requires (plan x).small c.span-s.ensures
+    ).sound
+
+pub returns-then-history-entry_size : goal.returns-then-history-entry_size
+returns-then-history-entry_size c =
+    let s = c in
+    let x = s in
+    let t = x in
+    let e = t.args in
+    let n = c.entry_size.ensures in
+    known-full _ e.k e.i e.j e.bytes.now e.room.now e.len e.history.now e.used _ t.refusal.ensures t.in_default.is
+    _ (plan x).is _ s.span-s.ensures (omega arith)
+
+pub commit-requires : goal.commit-requires
+commit-requires c =
+    let z = c in
+    let s = z in
+    let x = s in
+    let b = x in
+    let p = plan x in
+    let n = z.entry_size.ensures in
+    (((_, b.requires), p.fits), ((p.roomy, p.small), (s.span-s.ensures, omega arith)))
+
+pub returns : goal.returns
+returns c =
+    let m = c in
+    let z = m in
+    let s = z in
+    let x = s in
+    let t = x in
+    let e = t.args in
+    let n = z.entry_size.ensures in
+    m.commit.ensures
+    ∙ known-made _ e.k e.i e.j e.bytes.now e.room.now e.len e.history.now e.used _ t.refusal.ensures t.in_default.is
+    _ (plan x).is _ s.span-s.ensures (omega arith)

@@ -1,0 +1,14 @@
+-- The copy: at index i, the first i bytes of a are those of s at k.
+use native.Mathlib.Omega.{arith}
+use Prim.Native.Nat.{◌≤◌, ◌<◌, ◌-◌}
+use mathlib.Core.Path.{◌≡◌, refl}
+use lib.ListN.{length, take, length-set}
+use Rattle.fields.specs.Bytes.{part}
+use Rattle.fields.proofs.Laws.{copied_more, copied_all}
+use Rattle.fields.proofs.put.bytes32.Given as goal
+
+abbrev pub invariant-loop-i : goal.invariant-loop-i
+invariant-loop-i l = (l.i ≤ 32) × ((length l.a ≡ 32) × (take l.i l.a ≡ part l.s l.k l.i))
+
+abbrev pub decreases-loop-i : goal.decreases-loop-i
+decreases-loop-i l = 32 - l.i

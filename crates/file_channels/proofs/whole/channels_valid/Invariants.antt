@@ -1,0 +1,14 @@
+-- The invariant: ok says whether the first i channels are valid, and the next one stands at p.
+use Rattle.file_rule.specs.File.{channel_at, channels_rule}
+use Rattle.fields.specs.Rule.{is_valid, each}
+use Rattle.fields.proofs.Laws.{valid-step, valid-end}
+use Prim.Native.Nat.{ℕ, ◌+◌, ◌*◌, ◌-◌, ◌≤◌}
+use mathlib.Core.Path.{◌≡◌, refl}
+use native.Mathlib.Omega.{arith}
+use Rattle.file_channels.proofs.whole.channels_valid.Given as goal
+
+abbrev pub invariant-loop-i : goal.invariant-loop-i
+invariant-loop-i l = (l.i ≤ l.channels) × ((l.p ≡ l.start + l.i * 90) × (l.ok ≡ is_valid (each (channel_at l.f) l.i 90 l.start)))
+
+abbrev pub decreases-loop-i : goal.decreases-loop-i
+decreases-loop-i l = l.channels - l.i

@@ -1,0 +1,15 @@
+-- The invariant: ok says whether the first i contacts are valid, and the next one stands at p.
+use Rattle.file_rule.specs.File.{contact_at, contacts_rule}
+use Rattle.layout.specs.Places.{contact_place}
+use Rattle.fields.specs.Rule.{is_valid, each}
+use Rattle.fields.proofs.Laws.{valid-step, valid-end}
+use Prim.Native.Nat.{ℕ, ◌+◌, ◌*◌, ◌-◌, ◌≤◌}
+use mathlib.Core.Path.{◌≡◌, refl}
+use native.Mathlib.Omega.{arith}
+use Rattle.file_contacts.proofs.whole.contacts_valid.Given as goal
+
+abbrev pub invariant-loop-i : goal.invariant-loop-i
+invariant-loop-i l = (l.i ≤ l.contacts) × ((l.p ≡ 88 + l.i * 39) × (l.ok ≡ is_valid (each (contact_at l.edition l.f) l.i 39 88)))
+
+abbrev pub decreases-loop-i : goal.decreases-loop-i
+decreases-loop-i l = l.contacts - l.i

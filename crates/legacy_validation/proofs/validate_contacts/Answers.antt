@@ -1,0 +1,32 @@
+use Rattle.legacy.specs.Reading.{legacy_contact_at, legacy_contacts_rule}
+use Rattle.layout.specs.Places.{contact_place}
+use Rattle.fields.proofs.Laws.{each_next, each-bad, each-done}
+use Rattle.fields.specs.Rule.{each}
+use Prim.Native.Nat.{◌+◌, ◌*◌, ◌-◌, ◌≤◌}
+use mathlib.Core.Path.{◌≡◌}
+use native.Mathlib.Nat.{sub-zero}
+use borrow.Author.Rules.{rules}
+use native.Mathlib.Omega.{arith}
+use Rattle.legacy_validation.proofs.validate_contacts.Goals as goal
+
+pub loop-i-init : goal.loop-i-init
+unfolding legacy_contacts_rule contact_place
+loop-i-init c = (omega arith, (omega arith, rw (sub-zero, c.contact_count-contacts.ensures.0)))
+
+pub returns-in-Refused : goal.returns-in-Refused
+returns-in-Refused c =
+    let e = c in
+    let l = e.loop-i in
+    each-bad (legacy_contact_at _ _) _ l.i 39 l.p _ _ _ _ (omega arith) l.invariant.1.1 e.contact_at-v.ensures c.in-Refused.is
+
+pub loop-i-preserved : goal.loop-i-preserved
+loop-i-preserved c =
+    let e = c in
+    let l = e.loop-i in
+    let next = each_next (legacy_contact_at _ _) _ l.i 39 l.p _ _ (omega arith) l.invariant.1.1 e.contact_at-v.ensures c.in_default.is in
+    (omega arith, (omega arith, next))
+
+pub returns : goal.returns
+returns c =
+    let l = c.loop-i in
+    each-done (legacy_contact_at _ _) _ l.i 39 l.p _ (omega arith) l.invariant.1.1

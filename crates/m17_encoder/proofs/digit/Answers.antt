@@ -1,0 +1,24 @@
+-- The table's rule, at the character; the bytes before a space and past Z are foreign.
+use Prim.Native.Nat.{◌+◌, ◌-◌}
+use mathlib.Core.Path.{◌≡◌, sym}
+use mathlib.Core.Logic.{⊎_elim}
+use borrow.Author.Tests.{ltb-true, ltb-false}
+use Rattle.m17.proofs.Laws.{digit-before, digit-past, digit-le}
+use native.Mathlib.Omega.{arith}
+use borrow.Author.Rules.{rules}
+use Rattle.m17_encoder.proofs.digit.Goals as goal
+
+pub returns-then-c-lt32 : goal.returns-then-c-lt32
+returns-then-c-lt32 c =
+    let k = c.args.c in
+    (sym (⊎_elim (λ w. digit-before k (omega arith)) (λ w. digit-past k (omega (arith, ltb-true))) c.if-c-lt32.branch), search rules)
+
+pub bounds-digits-c : goal.bounds-digits-c
+bounds-digits-c c = omega (arith, ltb-false)
+
+pub returns : goal.returns
+returns c =
+    let e = c in
+    let k : 32 + (e.args.c - 32) ≡ e.args.c = omega arith in
+    let r = rw k at (e.requires.entry (e.args.c - 32) (omega (arith, ltb-false))) in
+    (r, rw r (digit-le e.args.c))

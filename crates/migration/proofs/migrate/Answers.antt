@@ -1,0 +1,57 @@
+-- A refusal leaves the file; a valid file holds all its records, and they are migrated, the contacts first.
+use Rattle.layout.specs.Places.{contact_count, channel_count, channel_place}
+use Rattle.fields.specs.declared.rule.Validity.TheVariants.{Valid}
+use Rattle.fields.proofs.Laws.{AllBytes}
+use Rattle.validation.specs.Validation.{validated_by}
+use Rattle.legacy.specs.Reading.{legacy_file_rule}
+use Rattle.legacy.specs.Migration.{migrated}
+use Rattle.legacy_validation.specs.Validation.{legacy_validation}
+use Rattle.migration.proofs.Laws.{records-inside, migrated-in-two, left-as-is, left-migrated}
+use mathlib.Core.Path.{◌≡◌, sym, ◌∙◌}
+use Prim.Native.Nat.{ℕ, ◌+◌, ◌*◌, ◌≤◌}
+use lib.ListN.{length}
+use native.Mathlib.Omega.{arith}
+use borrow.Author.Rules.{rules}
+use Rattle.migration.proofs.migrate.Goals as goal
+
+valid : (c : goal.In_default) → legacy_file_rule c.args.edition c.args.f.now ≡ Valid
+valid (goal.at.In_default c).In_default = sym c.validity_of.ensures ∙ c.in_default.is
+
+all-bytes : (c : goal.After-slice_known-1) → AllBytes c.args.f.now
+all-bytes (goal.at.After-slice_known-1 c).After-slice_known-1 i = (c.slice_known-1.given i).fits
+
+inside : (c : goal.In_default)
+    → (88 + contact_count c.args.f.now * 39 ≤ length c.args.f.now)
+    × (channel_place c.args.f.now 0 + channel_count c.args.f.now * 90 ≤ length c.args.f.now)
+inside (goal.at.In_default c).In_default = records-inside _ _ (all-bytes (goal.at.In_default c).After-slice_known-1) (valid (goal.at.In_default c).In_default)
+
+pub returns-in-Refused : goal.returns-in-Refused
+unfolding legacy_validation validated_by
+returns-in-Refused c =
+    let v = c in
+    (rw (← v.validity_of.ensures, c.in-Refused.is), left-as-is _ _ _ _ _ v.validity_of.ensures c.in-Refused.is)
+
+pub migrate_contacts-requires : goal.migrate_contacts-requires
+migrate_contacts-requires c =
+    let k = c in
+    omega (arith, inside k, k.contact_count-contacts.ensures)
+
+pub migrate_channels-requires : goal.migrate_channels-requires
+migrate_channels-requires c =
+    let p = c in
+    let n = p in
+    let k = n in
+    omega (arith, inside k, p.channel_place-start.ensures, n.channel_count-channels.ensures)
+
+pub returns : goal.returns
+unfolding legacy_validation validated_by
+returns c =
+    let s = c in
+    let t = s in
+    let p = t in
+    let n = p in
+    let k = n in
+    let o = k in
+    let e = o in
+    let m = migrated-in-two _ _ _ _ _ _ k.contact_count-contacts.ensures.0 t.migrate_contacts.ensures p.channel_place-start.ensures.0 n.channel_count-channels.ensures.0 s.migrate_channels.ensures in
+    (rw (o.Counts-of.ensures, valid (goal.at.returns e).In_default), left-migrated _ _ _ (valid (goal.at.returns e).In_default) m)

@@ -1,0 +1,44 @@
+-- The last contact index that moves ends the change; where none does, the cut alone is measured.
+use native.Mathlib.Omega.{arith}
+use mathlib.Core.Path.{ap, ◌∙◌}
+use Rattle.plan.specs.declared.Plan.TheVariants.{Contacts}
+use Rattle.plan.specs.Plan.{planned}
+use Rattle.plan.specs.Fits.{Fits}
+use Rattle.renumber.specs.Shift.{shift_of}
+use Rattle.plan_span.proofs.RenumberedLaws.{Renumbered, contacts-follow}
+use Rattle.plan_span.proofs.contacts_span.Goals as goal
+
+pub last_contact-requires : goal.last_contact-requires
+unfolding Fits
+last_contact-requires c = (omega arith, omega arith)
+
+last : (c : goal.After-last_contact)
+    → (let e = c.args in
+    Renumbered e.s e.c e.r.now e.f.now (planned (Contacts e.s e.c) e.r.now e.f.now) c.last_contact.result)
+last (goal.at.After-last_contact c).After-last_contact =
+    let s = c in
+    contacts-follow s.args.s s.args.c s.args.r.now s.args.f.now _ _ _ c.channel_place.ensures.0
+    c.channel_count.ensures.0 c.last_contact.ensures s.requires (λ i. (c.type_inv.f i).fits)
+
+pub apart_span-requires : goal.apart_span-requires
+apart_span-requires c =
+    let w = last (goal.at.apart_span-requires c).After-last_contact in
+    let e = c.in-At.is in
+    (w.fits _ e, w.inside _ e)
+
+pub returns-in-At : goal.returns-in-At
+returns-in-At c =
+    (last (goal.at.returns-in-At c).After-last_contact).span _ _ _ c.in-At.is
+    (c.shifted.ensures ∙ ap (shift_of _) c.le16.ensures) c.apart_span.ensures
+
+pub counted_span-requires : goal.counted_span-requires
+counted_span-requires c =
+    (last (goal.at.counted_span-requires c).After-last_contact).whole
+
+pub le16-requires : goal.le16-requires
+le16-requires c =
+    omega (arith, (last (goal.at.le16-requires c).After-last_contact).inside _ c.in-At.is)
+
+pub returns-in-Nowhere : goal.returns-in-Nowhere
+returns-in-Nowhere c =
+    rw ((last (goal.at.returns-in-Nowhere c).After-last_contact).none c.in-Nowhere.is) c.counted_span.ensures

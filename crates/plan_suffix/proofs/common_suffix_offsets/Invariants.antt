@@ -1,0 +1,18 @@
+-- The invariant: the last e bytes agree, and what is common before them is what the first i offsets have in common with the rest of s.
+use native.Mathlib.Omega.{arith}
+use Prim.Native.Nat.{◌+◌, ◌-◌, ◌≤◌}
+use mathlib.Core.Path.{◌≡◌, sym, ◌∙◌}
+use lib.ListN.{length, take}
+use lib.Seq.{length-take-le}
+use Rattle.affixes.specs.Common.{common_suffix}
+use Rattle.renumber.specs.Shift.{growth_of}
+use Rattle.renumber.specs.Moved.{offsets_moved}
+use Rattle.plan_suffix.specs.Suffix.{new_offsets}
+use Rattle.plan_suffix.proofs.SuffixLaws.{suffix-none, Iteration, iteration, suffix-done}
+use Rattle.plan_suffix.proofs.common_suffix_offsets.Given as goal
+
+abbrev pub invariant-loop-i : goal.invariant-loop-i
+invariant-loop-i l = ((l.i ≤ l.initial.i) × (l.e ≤ length l.s)) × (common_suffix l.s (offsets_moved l.initial.i (growth_of l.growth) l.f l.start) ≡ l.e + common_suffix (take (length l.s - l.e) l.s) (offsets_moved l.i (growth_of l.growth) l.f l.start))
+
+abbrev pub decreases-loop-i : goal.decreases-loop-i
+decreases-loop-i l = l.i

@@ -1,0 +1,65 @@
+use Rattle.renumber.proofs.Laws.{bank-order, entries_fit, entries-step, bank-none, banks_moved-none}
+use Rattle.renumber.specs.Moved.{banks_moved}
+use Rattle.renumber.specs.Shift.{shift_of}
+use Rattle.layout.specs.Banks.{bank_from}
+use Rattle.fields.proofs.Laws.{AllBytes, over_none}
+use Rattle.fields.specs.Bytes.{over}
+use lib.ListN.{length}
+use mathlib.Core.Path.{◌≡◌, sym, ap, ◌∙◌}
+use Prim.Native.Nat.{ℕ, ◌+◌, ◌*◌, ◌-◌, ◌≤◌}
+use native.Mathlib.Omega.{arith}
+use Rattle.renumber_apply.proofs.move_entries.Goals as goal
+
+all-bytes : (c : goal.After-slice_known-1) → AllBytes c.args.d.now
+all-bytes (goal.at.After-slice_known-1 c).After-slice_known-1 i = (c.type_inv.d i).fits
+
+-- the bank at p ends inside, where the next one starts
+room : (c : goal.After-entry_count-count)
+    → (c.loop-i.p + 34 + c.entry_count-count.result * 2 ≤ length c.args.d.now)
+    × (c.loop-i.p + (34 + c.entry_count-count.result * 2)
+    ≡ bank_from c.args.d.now (c.loop-i.i + 1) c.args.start)
+room (goal.at.After-entry_count-count c).After-entry_count-count =
+    let l = c in
+    let a = l.args in
+    entries_fit (shift_of a.s) a.d.now l.loop-i.d a.start a.n l.loop-i.i l.loop-i.p (all-bytes (goal.at.After-entry_count-count l).After-slice_known-1) (omega arith) l.loop-i.invariant.0.1 (omega arith) l.loop-i.invariant.1.1 c.entry_count-count.result c.entry_count-count.ensures.0
+
+pub loop-i-init : goal.loop-i-init
+loop-i-init c =
+    let a = c.args in
+    ((omega arith, sym (bank-none a.d.now a.start)), (omega arith, rw (banks_moved-none (shift_of a.s) a.d.now a.start) (over_none a.d.now a.start)))
+
+pub entry_count-count-requires : goal.entry_count-count-requires
+entry_count-count-requires c =
+    let l = c in
+    let a = l.args in
+    omega (arith, bank-order a.d.now l.loop-i.i a.n a.start (omega arith))
+
+pub overflow_add-p : goal.overflow_add-p
+overflow_add-p c = omega (arith, room (goal.at.overflow_add-p c).After-entry_count-count)
+
+pub move_run-requires : goal.move_run-requires
+move_run-requires c = omega (arith, room (goal.at.move_run-requires c).After-entry_count-count)
+
+pub overflow_mul-p : goal.overflow_mul-p
+overflow_mul-p c = omega (arith, room (goal.at.overflow_mul-p c).After-entry_count-count)
+
+pub overflow_add-p-in-loop-i : goal.overflow_add-p-in-loop-i
+overflow_add-p-in-loop-i c = omega (arith, room (goal.at.overflow_add-p-in-loop-i c).After-entry_count-count)
+
+pub overflow_add-p-in-loop-i-2 : goal.overflow_add-p-in-loop-i-2
+overflow_add-p-in-loop-i-2 c = omega (arith, room (goal.at.overflow_add-p-in-loop-i-2 c).After-entry_count-count)
+
+pub loop-i-preserved : goal.loop-i-preserved
+loop-i-preserved c =
+    let k = c in
+    let l = k in
+    let a = l.args in
+    let turned = entries-step (shift_of a.s) a.d.now l.loop-i.d a.start a.n l.loop-i.i l.loop-i.p (all-bytes (goal.at.loop-i-preserved l).After-slice_known-1) (omega arith) l.loop-i.invariant.0.1 (omega arith) l.loop-i.invariant.1.1 _ k.entry_count-count.result (omega arith) k.entry_count-count.ensures.0 c.move_run.ensures in
+    ((omega arith, (room k).1), (omega arith, turned))
+
+pub returns : goal.returns
+returns c =
+    let l = c.loop-i in
+    let a = c.args in
+    let e : l.i ≡ a.n = omega arith in
+    l.invariant.1.1 ∙ ap (λ (k : ℕ). over a.d.now a.start (banks_moved (shift_of a.s) a.d.now k a.start)) e

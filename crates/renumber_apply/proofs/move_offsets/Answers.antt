@@ -1,0 +1,31 @@
+use Rattle.renumber.proofs.Laws.{offsets-step}
+use Rattle.renumber.specs.Moved.{offsets_moved}
+use Rattle.renumber.specs.Shift.{growth_of}
+use Rattle.fields.proofs.Laws.{over_none}
+use Rattle.fields.specs.Bytes.{over}
+use lib.ListN.{length}
+use mathlib.Core.Path.{◌≡◌, ap, ◌∙◌}
+use Prim.Native.Nat.{ℕ, ◌+◌, ◌*◌, ◌-◌, ◌≤◌}
+use borrow.Author.Rules.{rules}
+use native.Mathlib.Omega.{arith}
+use Rattle.renumber_apply.proofs.move_offsets.Goals as goal
+
+pub loop-i-init : goal.loop-i-init
+unfolding offsets_moved
+loop-i-init c = (omega arith, (omega arith, (omega arith, over_none _ _)))
+
+pub loop-i-preserved : goal.loop-i-preserved
+loop-i-preserved c =
+    let w = c in
+    let l = w in
+    let a = l.args in
+    let put = rw (w.grown.ensures, w.le32.ensures) at w.put_le32.ensures in
+    let next = offsets-step (growth_of a.g) a.d.now l.loop-i.d _ a.start l.loop-i.i l.loop-i.p (omega arith) (omega arith) l.loop-i.invariant.1.1.1 put in
+    (omega arith, (omega arith, (omega arith, next)))
+
+pub returns : goal.returns
+returns c =
+    let l = c.loop-i in
+    let a = c.args in
+    let e : l.i ≡ a.n = omega arith in
+    l.invariant.1.1.1 ∙ ap (λ (k : ℕ). over a.d.now a.start (offsets_moved k (growth_of a.g) a.d.now a.start)) e

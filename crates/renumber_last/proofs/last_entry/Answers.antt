@@ -1,0 +1,69 @@
+use Rattle.renumber_last.proofs.LastLaws.{last_none, last-from, entries-last}
+use Rattle.renumber.proofs.Laws.{bank-order, bank-fits, bank-none, banks_moved-none}
+use Rattle.renumber_last.specs.Last.{LastMoved}
+use Rattle.renumber.specs.Moved.{banks_moved}
+use Rattle.renumber.specs.Shift.{shift_of}
+use Rattle.layout.specs.Banks.{bank_from}
+use Rattle.fields.proofs.Laws.{AllBytes}
+use Rattle.fields.specs.Bytes.{over}
+use lib.ListN.{length}
+use mathlib.Core.Path.{◌≡◌, sym, ap}
+use Prim.Native.Nat.{ℕ, ◌+◌, ◌*◌, ◌-◌, ◌≤◌}
+use borrow.Author.Rules.{rules}
+use native.Mathlib.Omega.{arith}
+use Rattle.renumber_last.proofs.last_entry.Goals as goal
+
+all-bytes : (c : goal.After-shared_slice_known-1) → AllBytes c.args.f.now
+all-bytes (goal.at.After-shared_slice_known-1 c).After-shared_slice_known-1 i = (c.type_inv.f i).fits
+
+-- the bank at p ends inside, where the next one starts
+room : (c : goal.After-entry_count-count)
+    → (c.loop-i.p + 34 + c.entry_count-count.result * 2 ≤ length c.args.f.now)
+    × (c.loop-i.p + (34 + c.entry_count-count.result * 2)
+    ≡ bank_from c.args.f.now (c.loop-i.i + 1) c.args.start)
+room (goal.at.After-entry_count-count c).After-entry_count-count =
+    let l = c in
+    let a = l.args in
+    bank-fits a.f.now a.start a.n l.loop-i.i l.loop-i.p c.entry_count-count.result (omega arith) l.loop-i.invariant.0.1 (omega arith) c.entry_count-count.ensures.0
+
+pub loop-i-init : goal.loop-i-init
+loop-i-init c =
+    let a = c.args in
+    ((omega arith, sym (bank-none a.f.now a.start)), rw (banks_moved-none (shift_of a.s) a.f.now a.start) (last_none _ _ _))
+
+pub entry_count-count-requires : goal.entry_count-count-requires
+entry_count-count-requires c =
+    let l = c in
+    let a = l.args in
+    omega (arith, bank-order a.f.now l.loop-i.i a.n a.start (omega arith))
+
+pub overflow_add-p : goal.overflow_add-p
+overflow_add-p c = omega (arith, room (goal.at.overflow_add-p c).After-entry_count-count)
+
+pub last_of_run-requires : goal.last_of_run-requires
+last_of_run-requires c = omega (arith, room (goal.at.last_of_run-requires c).After-entry_count-count)
+
+pub overflow_mul-p : goal.overflow_mul-p
+overflow_mul-p c = omega (arith, room (goal.at.overflow_mul-p c).After-entry_count-count)
+
+pub overflow_add-p-in-loop-i : goal.overflow_add-p-in-loop-i
+overflow_add-p-in-loop-i c = omega (arith, room (goal.at.overflow_add-p-in-loop-i c).After-entry_count-count)
+
+pub overflow_add-p-in-loop-i-2 : goal.overflow_add-p-in-loop-i-2
+overflow_add-p-in-loop-i-2 c = omega (arith, room (goal.at.overflow_add-p-in-loop-i-2 c).After-entry_count-count)
+
+pub loop-i-preserved : goal.loop-i-preserved
+loop-i-preserved c =
+    let r = c in
+    let k = r in
+    let l = k in
+    let a = l.args in
+    let next = entries-last (shift_of a.s) a.f.now a.start l.loop-i.i l.loop-i.p k.entry_count-count.result l.loop-i.last r.last_of_run.result c.later-last.result (all-bytes (goal.at.loop-i-preserved l).After-shared_slice_known-1) l.loop-i.invariant.0.1 (room k).0 k.entry_count-count.ensures.0 l.loop-i.invariant.1 r.last_of_run.ensures c.later-last.ensures in
+    ((omega arith, (room k).1), next)
+
+pub returns : goal.returns
+returns c =
+    let l = c.loop-i in
+    let a = c.args in
+    let e : l.i ≡ a.n = omega arith in
+    last-from _ _ _ _ _ _ _ (omega arith) (ap (λ (k : ℕ). over a.f.now a.start (banks_moved (shift_of a.s) a.f.now k a.start)) e) l.invariant.1

@@ -1,0 +1,27 @@
+use native.Mathlib.Omega.{arith}
+use Prim.Native.Nat.{◌≤◌, ◌-◌}
+use mathlib.Core.Path.{◌≡◌, refl}
+use mathlib.Core.Logic.{⊎_elim, inl, inr}
+use borrow.Author.Tests.{ltb-true, ltb-false}
+use lib.ListN.{length, drop}
+use Rattle.text.specs.Text.{plain_text}
+use Rattle.text.proofs.Laws.{plain_step, plain-stop, plain_end}
+use Rattle.text.proofs.plain_text.Goals as goal
+
+pub loop-i-init : goal.loop-i-init
+loop-i-init c = (omega arith, refl)
+
+pub returns-then-s-i-lt32 : goal.returns-then-s-i-lt32
+returns-then-s-i-lt32 c =
+    let s = c.args.s.now in
+    let l = c.loop-i in
+    plain-stop s l.i (omega arith) (⊎_elim (λ w. inl (omega arith)) (λ w. inr (omega (arith, ltb-true))) c.if-s-i-lt32.branch) l.invariant.1
+
+pub loop-i-preserved : goal.loop-i-preserved
+loop-i-preserved c =
+    let s = c.args.s.now in
+    let l = c.loop-i in
+    (omega arith, plain_step s l.i (omega arith) (omega arith) (omega (arith, ltb-false)) l.invariant.1)
+
+pub returns : goal.returns
+returns c = plain_end _ c.loop-i.i (omega arith) c.loop-i.invariant.1

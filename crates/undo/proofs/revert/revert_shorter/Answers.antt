@@ -1,0 +1,24 @@
+-- The exchange, validated, and taken back where the result is refused.
+use lib.ListN.{length-take}
+use Rattle.undo.proofs.ExchangeLaws.{shorter-valid, shorter-bad}
+use native.Mathlib.Omega.{arith}
+use borrow.Author.Rules.{rules}
+use Rattle.undo.proofs.revert.revert_shorter.Goals as goal
+
+pub slice_bounds-validity_of-length : goal.slice_bounds-validity_of-length
+slice_bounds-validity_of-length c = simp length-take (omega arith)
+
+pub returns-in-Valid : goal.returns-in-Valid
+returns-in-Valid c =
+    let e = c.args in
+    shorter-valid e.room.now e.history.now _ _ _ e.len e.p e.k e.body e.m _ (omega arith) (omega arith) (omega arith)
+    (omega arith) _ (omega arith) c.swap.ensures c.rotate.ensures c.validity_of.ensures _
+    c.in-Valid.is c.clear.ensures
+
+pub returns : goal.returns
+returns c =
+    let e = c.args in
+    let q = c.requires in
+    shorter-bad e.room.now e.history.now _ _ _ e.len e.p e.k e.body e.m _ q.0.0 q.0.1 (omega (arith, q)) q.1.1 _
+    q.1.0 c.swap.ensures c.rotate.ensures c.validity_of.ensures _ _ _ _ _
+    c.in_default.is c.rotate-2.ensures c.swap-2.ensures
