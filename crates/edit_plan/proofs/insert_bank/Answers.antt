@@ -8,19 +8,17 @@ use Rattle.edit_plan.proofs.PlanLaws.{insert-bank-there, insert-bank}
 use native.Mathlib.Omega.{arith}
 use borrow.Author.Rules.{rules}
 use Rattle.edit_plan.proofs.insert_bank.Goals as goal
+use Rattle.edit_plan.proofs.insert_bank.Goals.{After-shared_slice_known-1}
 
-all-bytes : (c : goal.After-shared_slice_known-1) → AllBytes c.args.f.now
-all-bytes (goal.at.After-shared_slice_known-1 c).After-shared_slice_known-1 n = (c.type_inv.f n).fits
-
-there : (c : goal.After-shared_slice_known-1)
+there : (c : After-shared_slice_known-1)
     → (c.args.i ≤ bank_count c.args.f.now) × (bank_count c.args.f.now < 65535)
-there (goal.at.After-shared_slice_known-1 c).After-shared_slice_known-1 = insert-bank-there c.args.f.now (all-bytes (goal.at.After-shared_slice_known-1 c).After-shared_slice_known-1) c.args.i 0 c.requires
+there c = insert-bank-there c.args.f.now (λ n. (c.type_inv.f n).fits) c.args.i 0 c.requires
 
-short : (c : goal.After-shared_slice_known-1) → length c.args.f.now < 2 ^ 32
-short (goal.at.After-shared_slice_known-1 c).After-shared_slice_known-1 = c.requires.0.short
+short : (c : After-shared_slice_known-1) → length c.args.f.now < 2 ^ 32
+short c = c.requires.0.short
 
 pub bank_place-at-requires : goal.bank_place-at-requires
-bank_place-at-requires c = (c.requires.0, omega (arith, there (goal.at.bank_place-at-requires c).After-shared_slice_known-1))
+bank_place-at-requires c = (c.requires.0, omega (arith, there c))
 
 pub overflow_sub-offset : goal.overflow_sub-offset
 overflow_sub-offset c = let a = c.args in omega (arith, bank-behind a.f.now a.i)
@@ -44,5 +42,5 @@ returns c =
     let p = n in
     let b = p in
     let s = b in
-    insert-bank _ (all-bytes (goal.at.returns s).After-shared_slice_known-1) _ 0 _ _ _ _ _ s.requires b.bank_place-at.ensures.0 (rw p.banks_place.ensures.0)
+    insert-bank _ (λ n. (s.type_inv.f n).fits) _ 0 _ _ _ _ _ s.requires b.bank_place-at.ensures.0 (rw p.banks_place.ensures.0)
     (rw n.bank_count.ensures.0) o.offset_place-place.ensures.0 c.table_from.ensures

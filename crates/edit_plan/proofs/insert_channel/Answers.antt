@@ -6,13 +6,11 @@ use Rattle.edit_plan.proofs.PlanLaws.{insert-channel-there, insert-channel}
 use native.Mathlib.Omega.{arith}
 use borrow.Author.Rules.{rules}
 use Rattle.edit_plan.proofs.insert_channel.Goals as goal
+use Rattle.edit_plan.proofs.insert_channel.Goals.{After-shared_slice_known-1}
 
-all-bytes : (c : goal.After-shared_slice_known-1) → AllBytes c.args.f.now
-all-bytes (goal.at.After-shared_slice_known-1 c).After-shared_slice_known-1 n = (c.type_inv.f n).fits
-
-there : (c : goal.After-shared_slice_known-1)
+there : (c : After-shared_slice_known-1)
     → (c.args.i ≤ channel_count c.args.f.now) × (channel_count c.args.f.now < 65535)
-there (goal.at.After-shared_slice_known-1 c).After-shared_slice_known-1 = insert-channel-there c.args.f.now (all-bytes (goal.at.After-shared_slice_known-1 c).After-shared_slice_known-1) c.args.i 0 c.requires
+there c = insert-channel-there c.args.f.now (λ n. (c.type_inv.f n).fits) c.args.i 0 c.requires
 
 pub overflow_cast-count : goal.overflow_cast-count
 overflow_cast-count c = record { fits = omega (arith, there (goal.at.overflow_cast-count c).After-shared_slice_known-1) }
@@ -24,4 +22,4 @@ pub returns : goal.returns
 returns c =
     let b = c in
     let s = b in
-    insert-channel _ (all-bytes (goal.at.returns s).After-shared_slice_known-1) _ _ _ s.requires c.channel_place-at.ensures.0 (rw b.channel_count.ensures.0)
+    insert-channel _ (λ n. (s.type_inv.f n).fits) _ _ _ s.requires c.channel_place-at.ensures.0 (rw b.channel_count.ensures.0)

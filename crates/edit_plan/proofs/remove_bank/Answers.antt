@@ -7,19 +7,17 @@ use Rattle.edit_plan.proofs.PlanLaws.{remove-bank-there, remove-bank}
 use native.Mathlib.Omega.{arith}
 use borrow.Author.Rules.{rules}
 use Rattle.edit_plan.proofs.remove_bank.Goals as goal
+use Rattle.edit_plan.proofs.remove_bank.Goals.{After-shared_slice_known-1}
 
-all-bytes : (c : goal.After-shared_slice_known-1) → AllBytes c.args.f.now
-all-bytes (goal.at.After-shared_slice_known-1 c).After-shared_slice_known-1 n = (c.type_inv.f n).fits
-
-there : (c : goal.After-shared_slice_known-1)
+there : (c : After-shared_slice_known-1)
     → (c.args.i < bank_count c.args.f.now) × (bank_count c.args.f.now < 65536)
-there (goal.at.After-shared_slice_known-1 c).After-shared_slice_known-1 = remove-bank-there c.args.f.now (all-bytes (goal.at.After-shared_slice_known-1 c).After-shared_slice_known-1) c.args.i 0 c.requires
+there c = remove-bank-there c.args.f.now (λ n. (c.type_inv.f n).fits) c.args.i 0 c.requires
 
-short : (c : goal.After-shared_slice_known-1) → length c.args.f.now < 2 ^ 32
-short (goal.at.After-shared_slice_known-1 c).After-shared_slice_known-1 = c.requires.0.short
+short : (c : After-shared_slice_known-1) → length c.args.f.now < 2 ^ 32
+short c = c.requires.0.short
 
 pub bank_place-at-requires : goal.bank_place-at-requires
-bank_place-at-requires c = (c.requires.0, omega (arith, there (goal.at.bank_place-at-requires c).After-shared_slice_known-1))
+bank_place-at-requires c = (c.requires.0, omega (arith, there c))
 
 pub entry_count-requires : goal.entry_count-requires
 entry_count-requires c = omega (arith, short (goal.at.entry_count-requires c).After-shared_slice_known-1)
@@ -43,5 +41,5 @@ returns c =
     let k = n in
     let b = k in
     let s = b in
-    remove-bank _ (all-bytes (goal.at.returns s).After-shared_slice_known-1) _ 0 _ _ _ _ _ s.requires b.bank_place-at.ensures.0 (rw k.entry_count.ensures.0)
+    remove-bank _ (λ n. (s.type_inv.f n).fits) _ 0 _ _ _ _ _ s.requires b.bank_place-at.ensures.0 (rw k.entry_count.ensures.0)
     (rw n.bank_count.ensures.0) o.offset_place-place.ensures.0 c.table_from.ensures

@@ -6,13 +6,11 @@ use Rattle.edit_plan.proofs.PlanLaws.{remove-channel-there, remove-channel}
 use native.Mathlib.Omega.{arith}
 use borrow.Author.Rules.{rules}
 use Rattle.edit_plan.proofs.remove_channel.Goals as goal
+use Rattle.edit_plan.proofs.remove_channel.Goals.{After-shared_slice_known-1}
 
-all-bytes : (c : goal.After-shared_slice_known-1) → AllBytes c.args.f.now
-all-bytes (goal.at.After-shared_slice_known-1 c).After-shared_slice_known-1 n = (c.type_inv.f n).fits
-
-there : (c : goal.After-shared_slice_known-1)
+there : (c : After-shared_slice_known-1)
     → (c.args.i < channel_count c.args.f.now) × (channel_count c.args.f.now < 65536)
-there (goal.at.After-shared_slice_known-1 c).After-shared_slice_known-1 = remove-channel-there c.args.f.now (all-bytes (goal.at.After-shared_slice_known-1 c).After-shared_slice_known-1) c.args.i 0 c.requires
+there c = remove-channel-there c.args.f.now (λ n. (c.type_inv.f n).fits) c.args.i 0 c.requires
 
 pub overflow_sub-count : goal.overflow_sub-count
 overflow_sub-count c = omega (arith, there (goal.at.overflow_sub-count c).After-shared_slice_known-1)
@@ -24,4 +22,4 @@ pub returns : goal.returns
 returns c =
     let b = c in
     let s = b in
-    remove-channel _ (all-bytes (goal.at.returns s).After-shared_slice_known-1) _ _ _ s.requires c.channel_place-at.ensures.0 (rw b.channel_count.ensures.0)
+    remove-channel _ (λ n. (s.type_inv.f n).fits) _ _ _ s.requires c.channel_place-at.ensures.0 (rw b.channel_count.ensures.0)

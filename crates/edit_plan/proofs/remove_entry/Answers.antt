@@ -10,37 +10,35 @@ use Rattle.edit_plan.proofs.PlanLaws.{remove-entry-there, remove_entry}
 use native.Mathlib.Omega.{arith}
 use borrow.Author.Rules.{rules}
 use Rattle.edit_plan.proofs.remove_entry.Goals as goal
+use Rattle.edit_plan.proofs.remove_entry.Goals.{After-entry_count, After-shared_slice_known-1}
 
-all-bytes : (c : goal.After-shared_slice_known-1) → AllBytes c.args.f.now
-all-bytes (goal.at.After-shared_slice_known-1 c).After-shared_slice_known-1 n = (c.type_inv.f n).fits
-
-there : (c : goal.After-shared_slice_known-1) →
+there : (c : After-shared_slice_known-1) →
     let a = c.args in
     let n = entry_count a.f.now (bank_place a.f.now a.i) in
     (a.i < bank_count a.f.now) × ((a.j < n) × (n < 65536))
-there (goal.at.After-shared_slice_known-1 c).After-shared_slice_known-1 = remove-entry-there c.args.f.now (all-bytes (goal.at.After-shared_slice_known-1 c).After-shared_slice_known-1) c.args.i c.args.j c.requires
+there c = remove-entry-there c.args.f.now (λ n. (c.type_inv.f n).fits) c.args.i c.args.j c.requires
 
-short : (c : goal.After-shared_slice_known-1) → length c.args.f.now < 2 ^ 32
-short (goal.at.After-shared_slice_known-1 c).After-shared_slice_known-1 = c.requires.0.short
+short : (c : After-shared_slice_known-1) → length c.args.f.now < 2 ^ 32
+short c = c.requires.0.short
 
-counted : (c : goal.After-entry_count) →
+counted : (c : After-entry_count) →
     let a = c.args in
     c.entry_count.result ≡ entry_count a.f.now (bank_place a.f.now a.i)
-counted (goal.at.After-entry_count c).After-entry_count = c.entry_count.ensures.0 ∙ rw c.bank_place-bank.ensures.0
+counted c = c.entry_count.ensures.0 ∙ rw c.bank_place-bank.ensures.0
 
 pub bank_place-bank-requires : goal.bank_place-bank-requires
-bank_place-bank-requires c = (c.requires.0, omega (arith, there (goal.at.bank_place-bank-requires c).After-shared_slice_known-1))
+bank_place-bank-requires c = (c.requires.0, omega (arith, there c))
 
 pub entry_count-requires : goal.entry_count-requires
 entry_count-requires c = omega (arith, short (goal.at.entry_count-requires c).After-shared_slice_known-1)
 
 pub overflow_sub-count : goal.overflow_sub-count
-overflow_sub-count c = omega (arith, there (goal.at.overflow_sub-count c).After-shared_slice_known-1, counted (goal.at.overflow_sub-count c).After-entry_count)
+overflow_sub-count c = omega (arith, there (goal.at.overflow_sub-count c).After-shared_slice_known-1, counted c)
 
 pub overflow_add-i : goal.overflow_add-i
 overflow_add-i c =
     let s = c in
-    omega (arith, there (goal.at.overflow_add-i s).After-shared_slice_known-1, bank_count-lt s.args.f.now (all-bytes (goal.at.overflow_add-i s).After-shared_slice_known-1))
+    omega (arith, there (goal.at.overflow_add-i s).After-shared_slice_known-1, bank_count-lt s.args.f.now (λ n. (s.type_inv.f n).fits))
 
 pub table_from-requires : goal.table_from-requires
 table_from-requires c = omega (arith, there (goal.at.table_from-requires c).After-shared_slice_known-1)
@@ -56,5 +54,5 @@ returns c =
     let k = c in
     let b = k in
     let s = b in
-    remove_entry _ (all-bytes (goal.at.returns s).After-shared_slice_known-1) _ _ _ _ _ _ s.requires b.bank_place-bank.ensures.0 (rw k.entry_count.ensures.0) refl
+    remove_entry _ (λ n. (s.type_inv.f n).fits) _ _ _ _ _ _ s.requires b.bank_place-bank.ensures.0 (rw k.entry_count.ensures.0) refl
     c.table_from.ensures

@@ -13,10 +13,11 @@ use native.Mathlib.Nat.{add-zero}
 use native.Mathlib.Omega.{arith}
 use borrow.Author.Rules.{rules}
 use Rattle.edit_result.proofs.record_validity.Goals as goal
+use Rattle.edit_result.proofs.record_validity.Goals.{After-shared_slice_known-2-1}
 
-asks : (c : goal.After-shared_slice_known-2-1) (m : Kind) → c.args.k ≡ m
+asks : (c : After-shared_slice_known-2-1) (m : Kind) → c.args.k ≡ m
     → Asks m c.args.i c.args.j c.args.r.now c.args.f.now
-asks (goal.at.After-shared_slice_known-2-1 c).After-shared_slice_known-2-1 m e = asks-as _ m _ _ _ _ e c.requires
+asks c m e = asks-as _ m _ _ _ _ e c.requires
 
 pub name_bank-requires : goal.name_bank-requires
 name_bank-requires c =

@@ -7,12 +7,13 @@ use Rattle.editor.proofs.EditLaws.{Changes, changes, change-made}
 use native.Mathlib.Omega.{arith}
 use borrow.Author.Rules.{rules}
 use Rattle.editor.proofs.commit.Goals as goal
+use Rattle.editor.proofs.commit.Goals.{After-slice_known-1}
 
 -- the change, at the entry
-planned-change : (c : goal.After-slice_known-1)
+planned-change : (c : After-slice_known-1)
     → (let e = c.args in
     Changes e.room-1.now e.len e.history-1.now e.used (planned e.plan e.bytes.now (take e.len e.room-1.now)) e.s)
-planned-change (goal.at.After-slice_known-1 c).After-slice_known-1 =
+planned-change c =
     let e = c.args in
     let p = c.requires in
     changes e.room-1.now e.len e.history-1.now e.used (planned e.plan e.bytes.now (take e.len e.room-1.now)) _ e.s

@@ -7,18 +7,19 @@ use Rattle.editor.proofs.EditLaws.{preconditions-accepted, preconditions-has-lay
 use native.Mathlib.Omega.{arith}
 use borrow.Author.Rules.{rules}
 use Rattle.editor.proofs.edit_known.Goals as goal
+use Rattle.editor.proofs.edit_known.Goals.{After-plan_of-plan, In_default}
 
-passed : (c : goal.In_default)
+passed : (c : In_default)
     → (let e = c.args in
     Passes e.edition e.k e.i e.j e.bytes.now (length e.room-1.now) (take e.len e.room-1.now))
-passed (goal.at.In_default c).In_default =
+passed c =
     let e = c.args in
     passes _ e.k e.i e.j e.bytes.now (length e.room-1.now) (take e.len e.room-1.now) _ c.refusal.ensures c.in_default.is
 
-plan : (c : goal.After-plan_of-plan)
+plan : (c : After-plan_of-plan)
     → (let e = c.args in
     Planned e.k e.i e.j e.bytes.now (length e.room-1.now) (take e.len e.room-1.now) c.plan_of-plan.result)
-plan (goal.at.After-plan_of-plan c).After-plan_of-plan =
+plan c =
     let t = c in
     let b = t in
     let e = b.args in
@@ -63,7 +64,7 @@ pub plan_of-plan-requires : goal.plan_of-plan-requires
 plan_of-plan-requires c =
     let s = c in
     let b = s in
-    let p = passed (goal.at.plan_of-plan-requires c).In_default in
+    let p = passed c in
     (preconditions-has-layout _ b.args.room.now b.args.len b.args.history.now b.args.used b.requires (λ n. (s.type_inv.room n).fits), (p.place, p.count))
 
 pub slice_bounds-span-end : goal.slice_bounds-span-end
@@ -81,7 +82,7 @@ pub span-s-requires : goal.span-s-requires
 span-s-requires c =
     let b = c in
     let l = preconditions-short _ b.args.room.now b.args.len b.args.history.now b.args.used b.requires in
-    ((plan (goal.at.span-s-requires c).After-plan_of-plan).fits, omega arith)
+    ((plan c).fits, omega arith)
 
 pub entry_size-requires : goal.entry_size-requires
 entry_size-requires c =

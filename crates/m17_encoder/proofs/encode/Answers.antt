@@ -10,6 +10,7 @@ use Rattle.m17_encoder.proofs.SumLaws.{sum-foreign, sum_number, signs-none, answ
 use native.Mathlib.Omega.{arith}
 use borrow.Author.Rules.{rules}
 use Rattle.m17_encoder.proofs.encode.Goals as goal
+use Rattle.m17_encoder.proofs.encode.Goals.{After-number}
 
 pub returns-then-n-eq0 : goal.returns-then-n-eq0
 returns-then-n-eq0 c =
@@ -24,10 +25,10 @@ pub number-requires : goal.number-requires
 number-requires c = (c.digits-digits.ensures, (omega arith, omega (arith, ltb-false)))
 
 -- a text of 1 to 9 characters that does not begin with a hash sign
-one-to-nine : (t : goal.After-number) → OneToNine t.args.s.now
+one-to-nine : (t : After-number) → OneToNine t.args.s.now
 one-to-nine t = (omega arith, omega (arith, ltb-false))
 
-none : (t : goal.After-number) → 0 ≡ hash_signs t.args.edition t.args.s.now
+none : (t : After-number) → 0 ≡ hash_signs t.args.edition t.args.s.now
 none t = sym (signs-none _ _ t.if3.false)
 
 pub returns-in-Foreign : goal.returns-in-Foreign

@@ -8,6 +8,7 @@ use Rattle.m17_encoder.proofs.SumLaws.{behind-drop, behind-length, signs-one, ta
 use native.Mathlib.Omega.{arith}
 use borrow.Author.Rules.{rules}
 use Rattle.m17_encoder.proofs.with_sign.Goals as goal
+use Rattle.m17_encoder.proofs.with_sign.Goals.{After-number, In-Number}
 
 pub returns-in-Older : goal.returns-in-Older
 returns-in-Older c =
@@ -28,7 +29,7 @@ number-requires c =
     (e.requires.0, (omega (arith, c.if-text-eq0.false), omega (arith, l, e.requires.1.0.1)))
 
 -- the edition is the newer, and the sign is one
-one : (t : goal.After-number) → 1 ≡ hash_signs t.args.edition t.args.s.now
+one : (t : After-number) → 1 ≡ hash_signs t.args.edition t.args.s.now
 one t =
     let e = t in
     rw t.enum-told2.given.1 (sym (signs-one e.args.s.now e.requires.1.0.0 e.requires.1.1))
@@ -48,7 +49,7 @@ returns-in-Foreign c =
     (c.first_foreign.ensures ∙ ap first_foreign (behind-drop 1 s)) (tail-foreign s _ t.number.ensures c.in-Foreign.is)
 
 -- the characters behind the sign have digits
-behind-sign : (m : goal.In-Number-2)
+behind-sign : (m : In-Number)
     → (let s = m.args.s.now in
     (length (drop 1 s) ≤ first_foreign (drop 1 s)) × (m.sum.given.0.0 ≡ address_of (drop 1 s)))
 behind-sign m = tail-number m.args.s.now _ _ m.number.ensures m.sum.given.1

@@ -13,17 +13,18 @@ use lib.ListN.{length}
 use native.Mathlib.Omega.{arith}
 use borrow.Author.Rules.{rules}
 use Rattle.migration.proofs.migrate.Goals as goal
+use Rattle.migration.proofs.migrate.Goals.{After-slice_known-1, In_default}
 
-valid : (c : goal.In_default) → legacy_file_rule c.args.edition c.args.f.now ≡ Valid
-valid (goal.at.In_default c).In_default = sym c.validity_of.ensures ∙ c.in_default.is
+valid : (c : In_default) → legacy_file_rule c.args.edition c.args.f.now ≡ Valid
+valid c = sym c.validity_of.ensures ∙ c.in_default.is
 
-all-bytes : (c : goal.After-slice_known-1) → AllBytes c.args.f.now
-all-bytes (goal.at.After-slice_known-1 c).After-slice_known-1 i = (c.slice_known-1.given i).fits
+all-bytes : (c : After-slice_known-1) → AllBytes c.args.f.now
+all-bytes c i = (c.slice_known-1.given i).fits
 
-inside : (c : goal.In_default)
+inside : (c : In_default)
     → (88 + contact_count c.args.f.now * 39 ≤ length c.args.f.now)
     × (channel_place c.args.f.now 0 + channel_count c.args.f.now * 90 ≤ length c.args.f.now)
-inside (goal.at.In_default c).In_default = records-inside _ _ (all-bytes (goal.at.In_default c).After-slice_known-1) (valid (goal.at.In_default c).In_default)
+inside c = records-inside _ _ (all-bytes (goal.at.In_default c).After-slice_known-1) (valid c)
 
 pub returns-in-Refused : goal.returns-in-Refused
 unfolding legacy_validation validated_by

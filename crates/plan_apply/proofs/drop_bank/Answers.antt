@@ -7,21 +7,22 @@ use Rattle.plan.specs.Plan.{planned}
 use Rattle.plan.specs.Fits.{Fits}
 use Rattle.plan_apply.proofs.MakeLaws.{TableReady, Ready, drop-moved, drop-ready, long-take}
 use Rattle.plan_apply.proofs.drop_bank.Goals as goal
+use Rattle.plan_apply.proofs.drop_bank.Goals.{After-move_offsets, After-splice}
 
 -- the buffer once the offsets have moved
-moved : (c : goal.After-move_offsets)
+moved : (c : After-move_offsets)
     → (let e = c.args in
     TableReady e.t e.d-1.now e.len c.move_offsets.new.0 e.b.at e.b.size e.r.now)
-moved (goal.at.After-move_offsets c).After-move_offsets =
+moved c =
     let s = c in
     drop-moved s.args.t s.args.b s.args.c s.args.r.now s.args.d.now s.args.len _ s.requires c.move_offsets.ensures
 
 -- and once the bank has gone
-gone : (c : goal.After-splice)
+gone : (c : After-splice)
     → (let e = c.args in
     Ready e.c e.r.now e.d-1.now e.len c.splice.new.0 (e.len - e.b.size)
     (planned (DropBank e.t e.b e.c) e.r.now (take e.len e.d-1.now)))
-gone (goal.at.After-splice c).After-splice =
+gone c =
     let s = c in
     drop-ready s.args.t s.args.b s.args.c s.args.r.now s.args.d.now s.args.len _ _ s.requires
     (moved (goal.at.After-splice c).After-move_offsets).held c.splice.ensures

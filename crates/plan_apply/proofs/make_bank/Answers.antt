@@ -7,22 +7,23 @@ use Rattle.plan.specs.Plan.{planned}
 use Rattle.plan.specs.Fits.{Fits}
 use Rattle.plan_apply.proofs.MakeLaws.{TableReady, Ready, bank-moved, bank-ready, long-take}
 use Rattle.plan_apply.proofs.make_bank.Goals as goal
+use Rattle.plan_apply.proofs.make_bank.Goals.{After-move_offsets, After-splice}
 
 -- the buffer once the offsets have moved
-moved : (c : goal.After-move_offsets)
+moved : (c : After-move_offsets)
     → (let e = c.args in
     TableReady e.t e.d-1.now e.len c.move_offsets.new.0 e.at 0 c.empty_bank-bank.result)
-moved (goal.at.After-move_offsets c).After-move_offsets =
+moved c =
     let s = c in
     bank-moved s.args.t s.args.at s.args.offset s.args.c s.args.r.now s.args.d.now s.args.len _ _ s.requires
     c.move_offsets.ensures c.empty_bank-bank.ensures
 
 -- and once the bank is put in
-banked : (c : goal.After-splice)
+banked : (c : After-splice)
     → (let e = c.args in
     Ready e.c c.bytes32-bytes.result e.d-1.now e.len c.splice.new.0 (e.len + 34)
     (planned (AddBank e.t e.at e.offset e.c) e.r.now (take e.len e.d-1.now)))
-banked (goal.at.After-splice c).After-splice =
+banked c =
     let b = c in
     let s = b in
     bank-ready s.args.t s.args.at s.args.offset s.args.c s.args.r.now s.args.d.now s.args.len _ _ _ _ s.requires

@@ -6,12 +6,13 @@ use Rattle.plan.specs.Fits.{Fits}
 use Rattle.plan_apply.proofs.MakeLaws.{LentReady, channels-ready, long-take}
 use Rattle.plan.proofs.Laws.{banks-inside}
 use Rattle.plan_apply.proofs.make_channels.Goals as goal
+use Rattle.plan_apply.proofs.make_channels.Goals.{After-move_entries}
 
 -- the buffer once the indexes have moved
-moved : (c : goal.After-move_entries)
+moved : (c : After-move_entries)
     → (let e = c.args in
     LentReady (Channels e.s e.c) e.c e.r.now e.d-1.now e.len c.move_entries.new.0)
-moved (goal.at.After-move_entries c).After-move_entries =
+moved c =
     let s = c in
     channels-ready s.args.s s.args.c s.args.r.now s.args.d.now s.args.len _ _ _ s.requires
     (λ i. (c.type_inv.d i).fits)

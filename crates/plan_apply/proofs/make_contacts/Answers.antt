@@ -4,12 +4,13 @@ use Rattle.plan.specs.declared.Plan.TheVariants.{Contacts}
 use Rattle.plan.specs.Fits.{Fits}
 use Rattle.plan_apply.proofs.MakeLaws.{LentReady, contacts-ready, long-take}
 use Rattle.plan_apply.proofs.make_contacts.Goals as goal
+use Rattle.plan_apply.proofs.make_contacts.Goals.{After-move_contacts}
 
 -- the buffer once the indexes have moved
-moved : (c : goal.After-move_contacts)
+moved : (c : After-move_contacts)
     → (let e = c.args in
     LentReady (Contacts e.s e.c) e.c e.r.now e.d-1.now e.len c.move_contacts.new.0)
-moved (goal.at.After-move_contacts c).After-move_contacts =
+moved c =
     let s = c in
     contacts-ready s.args.s s.args.c s.args.r.now s.args.d.now s.args.len _ _ _ s.requires
     c.channel_place-start.ensures.0 c.channel_count-n.ensures.0 c.move_contacts.ensures

@@ -4,12 +4,13 @@ use Rattle.plan.specs.declared.Plan.TheVariants.{Entries}
 use Rattle.plan.specs.Fits.{Fits}
 use Rattle.plan_apply.proofs.MakeLaws.{LentReady, entries-ready, long-take}
 use Rattle.plan_apply.proofs.make_entries.Goals as goal
+use Rattle.plan_apply.proofs.make_entries.Goals.{After-move_offsets}
 
 -- the buffer once the offsets have moved
-moved : (c : goal.After-move_offsets)
+moved : (c : After-move_offsets)
     → (let e = c.args in
     LentReady (Entries e.t e.c) e.c e.r.now e.d-1.now e.len c.move_offsets.new.0)
-moved (goal.at.After-move_offsets c).After-move_offsets =
+moved c =
     let s = c in
     entries-ready s.args.t s.args.c s.args.r.now s.args.d.now s.args.len _ s.requires c.move_offsets.ensures
 

@@ -8,6 +8,7 @@ use Rattle.renumber.specs.Shift.{shift_of}
 use Rattle.plan.proofs.Laws.{banks-inside}
 use Rattle.plan_span.proofs.RenumberedLaws.{Renumbered, entries-follow}
 use Rattle.plan_span.proofs.channels_span.Goals as goal
+use Rattle.plan_span.proofs.channels_span.Goals.{After-last_entry}
 
 pub last_entry-requires : goal.last_entry-requires
 unfolding Fits
@@ -15,10 +16,10 @@ last_entry-requires c =
     let s = c in
     ((banks-inside s.args.f.now _ _ c.banks_place.ensures.0 c.bank_count.ensures.0 s.requires.0.1.0, s.requires.1), omega arith)
 
-last : (c : goal.After-last_entry)
+last : (c : After-last_entry)
     → (let e = c.args in
     Renumbered e.s e.c e.r.now e.f.now (planned (Channels e.s e.c) e.r.now e.f.now) c.last_entry.result)
-last (goal.at.After-last_entry c).After-last_entry =
+last c =
     let s = c in
     entries-follow s.args.s s.args.c s.args.r.now s.args.f.now _ _ _ c.banks_place.ensures.0
     c.bank_count.ensures.0 c.last_entry.ensures s.requires.0 (λ i. (c.type_inv.f i).fits)

@@ -7,15 +7,16 @@ use Rattle.plan.specs.Fits.{Fits}
 use Rattle.renumber.specs.Shift.{shift_of}
 use Rattle.plan_span.proofs.RenumberedLaws.{Renumbered, contacts-follow}
 use Rattle.plan_span.proofs.contacts_span.Goals as goal
+use Rattle.plan_span.proofs.contacts_span.Goals.{After-last_contact}
 
 pub last_contact-requires : goal.last_contact-requires
 unfolding Fits
 last_contact-requires c = (omega arith, omega arith)
 
-last : (c : goal.After-last_contact)
+last : (c : After-last_contact)
     → (let e = c.args in
     Renumbered e.s e.c e.r.now e.f.now (planned (Contacts e.s e.c) e.r.now e.f.now) c.last_contact.result)
-last (goal.at.After-last_contact c).After-last_contact =
+last c =
     let s = c in
     contacts-follow s.args.s s.args.c s.args.r.now s.args.f.now _ _ _ c.channel_place.ensures.0
     c.channel_count.ensures.0 c.last_contact.ensures s.requires (λ i. (c.type_inv.f i).fits)

@@ -2,18 +2,19 @@
 use native.Mathlib.Omega.{arith}
 use Rattle.plan_span.proofs.MeasureLaws.{CountedMeasured, counted-alone}
 use Rattle.plan_span.proofs.counted_span.Goals as goal
+use Rattle.plan_span.proofs.counted_span.Goals.{After-common_suffix3-tail}
 
-measured : (c : goal.After-common_suffix3-tail)
+measured : (c : After-common_suffix3-tail)
     → (let e = c.args in
     CountedMeasured e.c e.r.now e.f.now c.common_suffix3-tail.result)
-measured (goal.at.After-common_suffix3-tail c).After-common_suffix3-tail =
+measured c =
     let s = c in
     counted-alone s.args.c s.args.r.now s.args.f.now _ _ s.requires c.bytes16-n.ensures
     c.common_suffix3-tail.ensures
 
 pub overflow_add-f : goal.overflow_add-f
 overflow_add-f c =
-    omega (arith, (measured (goal.at.overflow_add-f c).After-common_suffix3-tail).old-fits)
+    omega (arith, (measured c).old-fits)
 
 pub span_from-requires : goal.span_from-requires
 span_from-requires c =

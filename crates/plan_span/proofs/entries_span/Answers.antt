@@ -4,6 +4,7 @@ use Rattle.plan.specs.Fits.{Fits}
 use Rattle.plan.specs.Plan.{planned}
 use Rattle.plan_span.proofs.TableLaws.{EntriesMeasured, entries-measured, table_none}
 use Rattle.plan_span.proofs.entries_span.Goals as goal
+use Rattle.plan_span.proofs.entries_span.Goals.{After-entries_suffix-tail}
 
 pub returns-then-t-eq0 : goal.returns-then-t-eq0
 unfolding planned
@@ -17,10 +18,10 @@ entries_suffix-tail-requires c =
     let h = c.requires in
     (h.1.0, (h.0, (h.0.inside, h.1.0.few)))
 
-measured : (c : goal.After-entries_suffix-tail)
+measured : (c : After-entries_suffix-tail)
     → (let e = c.args in
     EntriesMeasured e.t e.c e.r.now e.f.now c.entries_suffix-tail.result)
-measured (goal.at.After-entries_suffix-tail c).After-entries_suffix-tail =
+measured c =
     let s = c in
     entries-measured s.args.t s.args.c s.args.r.now s.args.f.now _ s.requires c.if-t-eq0.false
     c.entries_suffix-tail.ensures
@@ -33,12 +34,12 @@ counted_span-requires c =
 pub overflow_add-f : goal.overflow_add-f
 unfolding Fits
 overflow_add-f c =
-    omega (arith, (measured (goal.at.overflow_add-f c).After-entries_suffix-tail).old-fits)
+    omega (arith, (measured c).old-fits)
 
 pub span_from-requires : goal.span_from-requires
 unfolding Fits
 span_from-requires c =
-    ((measured (goal.at.span_from-requires c).After-entries_suffix-tail).old-fits, (measured (goal.at.span_from-requires c).After-entries_suffix-tail).new-fits)
+    ((measured c).old-fits, (measured c).new-fits)
 
 pub returns : goal.returns
 unfolding Fits

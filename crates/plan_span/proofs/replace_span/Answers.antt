@@ -6,19 +6,20 @@ use Rattle.fields.specs.Bytes.{over}
 use Rattle.plan_suffix.specs.Suffix.{between}
 use Rattle.plan_span.proofs.MeasureLaws.{Measured, Replaced, replaced}
 use Rattle.plan_span.proofs.replace_span.Goals as goal
+use Rattle.plan_span.proofs.replace_span.Goals.{After-common_prefix-c, After-common_suffix-tail}
 
-started : (c : goal.After-common_prefix-c)
+started : (c : After-common_prefix-c)
     → (let e = c.args in
     Replaced e.f.now e.r.now e.at c.common_prefix-c.result (between e.f.now e.at (e.at + length e.r.now)))
-started (goal.at.After-common_prefix-c c).After-common_prefix-c =
+started c =
     let s = c in
     replaced s.args.f.now s.args.r.now s.args.at _ s.requires c.common_prefix-c.ensures
 
-measured : (c : goal.After-common_suffix-tail)
+measured : (c : After-common_suffix-tail)
     → (let e = c.args in
     Measured e.f.now (over e.f.now e.at e.r.now) (e.at + c.common_prefix-c.result)
     (length e.f.now - (e.at + length e.r.now) + c.common_suffix-tail.result) (length e.f.now))
-measured (goal.at.After-common_suffix-tail c).After-common_suffix-tail = (started (goal.at.After-common_suffix-tail c).After-common_prefix-c).differs c.if-c-n.false _ c.common_suffix-tail.ensures
+measured c = (started (goal.at.After-common_suffix-tail c).After-common_prefix-c).differs c.if-c-n.false _ c.common_suffix-tail.ensures
 
 pub returns-then-c-n : goal.returns-then-c-n
 returns-then-c-n c =
@@ -42,15 +43,15 @@ slice_bounds-common_suffix-start-2 c =
 
 pub overflow_add-at : goal.overflow_add-at
 overflow_add-at c =
-    omega (arith, (measured (goal.at.overflow_add-at c).After-common_suffix-tail).old-fits)
+    omega (arith, (measured c).old-fits)
 
 pub overflow_add-f : goal.overflow_add-f
 overflow_add-f c =
-    omega (arith, (measured (goal.at.overflow_add-f c).After-common_suffix-tail).old-fits)
+    omega (arith, (measured c).old-fits)
 
 pub span_from-requires-2 : goal.span_from-requires-2
 span_from-requires-2 c =
-    ((measured (goal.at.span_from-requires-2 c).After-common_suffix-tail).old-fits, (measured (goal.at.span_from-requires-2 c).After-common_suffix-tail).new-fits)
+    ((measured c).old-fits, (measured c).new-fits)
 
 pub returns : goal.returns
 returns c =

@@ -4,14 +4,15 @@ use Prim.Native.Nat.{◌<◌, ◌^◌}
 use lib.ListN.{length}
 use Rattle.plan_suffix.proofs.SuffixLaws.{BankLeft, word, bank-left, bank-table}
 use Rattle.plan_suffix.proofs.bank_suffix.Goals as goal
+use Rattle.plan_suffix.proofs.bank_suffix.Goals.{After-common_suffix3-e, After-struct_known-1}
 
-small : (c : goal.After-struct_known-1) → length c.args.f.now < 2 ^ 64
-small (goal.at.After-struct_known-1 c).After-struct_known-1 = omega arith
+small : (c : After-struct_known-1) → length c.args.f.now < 2 ^ 64
+small c = omega arith
 
-left : (c : goal.After-common_suffix3-e)
+left : (c : After-common_suffix3-e)
     → (let e = c.args in
     BankLeft e.t e.k e.c e.a.now e.b.now e.added.now e.f.now c.common_suffix3-e.result)
-left (goal.at.After-common_suffix3-e c).After-common_suffix3-e =
+left c =
     let s = c in
     bank-left s.args.t s.args.k s.args.c s.args.a.now s.args.b.now s.args.added.now s.args.f.now _ s.requires
     c.common_suffix3-e.ensures

@@ -9,12 +9,13 @@ use Rattle.renumber.specs.Moved.{offsets_moved}
 use Rattle.plan_suffix.specs.Suffix.{new_offsets}
 use Rattle.plan_suffix.proofs.SuffixLaws.{suffix-none, Iteration, iteration, suffix-done}
 use Rattle.plan_suffix.proofs.common_suffix_offsets.Goals as goal
+use Rattle.plan_suffix.proofs.common_suffix_offsets.Goals.{After-common_suffix-same}
 
-turned : (c : goal.After-common_suffix-same)
+turned : (c : After-common_suffix-same)
     → (let a = c.args in
     let l = c.loop-i in
     Iteration a.s.now (new_offsets a.t a.f.now) (growth_of a.t.growth) a.f.now a.t.start l.i l.e c.common_suffix-same.result)
-turned (goal.at.After-common_suffix-same c).After-common_suffix-same =
+turned c =
     let a = c.args in
     let l = c.loop-i in
     let b = c in
@@ -42,7 +43,7 @@ loop-i-init c =
 
 pub overflow_add-e : goal.overflow_add-e
 overflow_add-e c =
-    omega (arith, (turned (goal.at.overflow_add-e c).After-common_suffix-same).room)
+    omega (arith, (turned c).room)
 
 pub returns-then-same-lt4 : goal.returns-then-same-lt4
 returns-then-same-lt4 c =

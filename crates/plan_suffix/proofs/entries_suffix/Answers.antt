@@ -4,14 +4,15 @@ use Prim.Native.Nat.{◌<◌, ◌^◌}
 use lib.ListN.{length}
 use Rattle.plan_suffix.proofs.SuffixLaws.{EntriesLeft, word, entries-left, entries-order, entries-table}
 use Rattle.plan_suffix.proofs.entries_suffix.Goals as goal
+use Rattle.plan_suffix.proofs.entries_suffix.Goals.{After-common_suffix4-e, After-struct_known-1}
 
-small : (c : goal.After-struct_known-1) → length c.args.f.now < 2 ^ 64
-small (goal.at.After-struct_known-1 c).After-struct_known-1 = omega arith
+small : (c : After-struct_known-1) → length c.args.f.now < 2 ^ 64
+small c = omega arith
 
-left : (c : goal.After-common_suffix4-e)
+left : (c : After-common_suffix4-e)
     → (let e = c.args in
     EntriesLeft e.t e.c e.r.now e.f.now c.common_suffix4-e.result)
-left (goal.at.After-common_suffix4-e c).After-common_suffix4-e =
+left c =
     let s = c in
     entries-left s.args.t s.args.c s.args.r.now s.args.f.now _ _ s.requires c.bytes16-n.ensures
     c.common_suffix4-e.ensures

@@ -11,32 +11,33 @@ use Rattle.renumber.proofs.Laws.{length-offsets_moved}
 use Rattle.plan_suffix.specs.Suffix.{new_offsets, counted_pieces, table_pieces}
 use Rattle.plan_suffix.proofs.SuffixLaws.{Compared, compared}
 use Rattle.plan_suffix.proofs.table_suffix.Goals as goal
+use Rattle.plan_suffix.proofs.table_suffix.Goals.{After-common_suffix3, After-common_suffix_offsets-e}
 
-offsets : (c : goal.After-common_suffix_offsets-e)
+offsets : (c : After-common_suffix_offsets-e)
     → (let e = c.args in
     Compared e.s.now (table_pieces e.t e.c e.added.now e.f.now) (counted_pieces e.c e.added.now e.f.now)
     (e.t.many * 4) c.common_suffix_offsets-e.result)
-offsets (goal.at.After-common_suffix_offsets-e c).After-common_suffix_offsets-e =
+offsets c =
     let e = c.args in
     compared e.s.now _ _ (new_offsets e.t e.f.now) _ _ (simp append_assoc)
     (length-offsets_moved e.t.many (growth_of e.t.growth) e.f.now e.t.start) c.common_suffix_offsets-e.ensures
 
-before : (c : goal.After-common_suffix3)
+before : (c : After-common_suffix3)
     → (let e = c.args in
     c.common_suffix3.result
     ≡ common_suffix (take (length e.s.now - c.common_suffix_offsets-e.result) e.s.now)
     (counted_pieces e.c e.added.now e.f.now))
-before (goal.at.After-common_suffix3 c).After-common_suffix3 = rw c.bytes16-n.ensures at c.common_suffix3.ensures
+before c = rw c.bytes16-n.ensures at c.common_suffix3.ensures
 
 pub slice_bounds-common_suffix3-length : goal.slice_bounds-common_suffix3-length
 slice_bounds-common_suffix3-length c = sym (length-take-le _ c.args.s.now (omega arith))
 
 pub overflow_add-result : goal.overflow_add-result
-overflow_add-result c = omega (arith, (offsets (goal.at.overflow_add-result c).After-common_suffix_offsets-e).fits _ (before (goal.at.overflow_add-result c).After-common_suffix3))
+overflow_add-result c = omega (arith, (offsets (goal.at.overflow_add-result c).After-common_suffix_offsets-e).fits _ (before c))
 
 pub returns : goal.returns
 returns c =
-    (offsets (goal.at.returns c).After-common_suffix_offsets-e).goes c.if-e-t.false _ (before (goal.at.returns c).After-common_suffix3)
+    (offsets (goal.at.returns c).After-common_suffix_offsets-e).goes c.if-e-t.false _ (before c)
 
 pub returns-then-e-t : goal.returns-then-e-t
 returns-then-e-t c =

@@ -9,16 +9,17 @@ use mathlib.Core.Path.{◌≡◌, sym, ap, ◌∙◌}
 use Prim.Native.Nat.{ℕ, ◌+◌, ◌*◌, ◌-◌, ◌≤◌}
 use native.Mathlib.Omega.{arith}
 use Rattle.renumber_apply.proofs.move_entries.Goals as goal
+use Rattle.renumber_apply.proofs.move_entries.Goals.{After-entry_count-count, After-slice_known-1}
 
-all-bytes : (c : goal.After-slice_known-1) → AllBytes c.args.d.now
-all-bytes (goal.at.After-slice_known-1 c).After-slice_known-1 i = (c.type_inv.d i).fits
+all-bytes : (c : After-slice_known-1) → AllBytes c.args.d.now
+all-bytes c i = (c.type_inv.d i).fits
 
 -- the bank at p ends inside, where the next one starts
-room : (c : goal.After-entry_count-count)
+room : (c : After-entry_count-count)
     → (c.loop-i.p + 34 + c.entry_count-count.result * 2 ≤ length c.args.d.now)
     × (c.loop-i.p + (34 + c.entry_count-count.result * 2)
     ≡ bank_from c.args.d.now (c.loop-i.i + 1) c.args.start)
-room (goal.at.After-entry_count-count c).After-entry_count-count =
+room c =
     let l = c in
     let a = l.args in
     entries_fit (shift_of a.s) a.d.now l.loop-i.d a.start a.n l.loop-i.i l.loop-i.p (all-bytes (goal.at.After-entry_count-count l).After-slice_known-1) (omega arith) l.loop-i.invariant.0.1 (omega arith) l.loop-i.invariant.1.1 c.entry_count-count.result c.entry_count-count.ensures.0

@@ -12,16 +12,14 @@ use Prim.Native.Nat.{ℕ, ◌+◌, ◌*◌, ◌-◌, ◌≤◌}
 use borrow.Author.Rules.{rules}
 use native.Mathlib.Omega.{arith}
 use Rattle.renumber_last.proofs.last_entry.Goals as goal
-
-all-bytes : (c : goal.After-shared_slice_known-1) → AllBytes c.args.f.now
-all-bytes (goal.at.After-shared_slice_known-1 c).After-shared_slice_known-1 i = (c.type_inv.f i).fits
+use Rattle.renumber_last.proofs.last_entry.Goals.{After-entry_count-count}
 
 -- the bank at p ends inside, where the next one starts
-room : (c : goal.After-entry_count-count)
+room : (c : After-entry_count-count)
     → (c.loop-i.p + 34 + c.entry_count-count.result * 2 ≤ length c.args.f.now)
     × (c.loop-i.p + (34 + c.entry_count-count.result * 2)
     ≡ bank_from c.args.f.now (c.loop-i.i + 1) c.args.start)
-room (goal.at.After-entry_count-count c).After-entry_count-count =
+room c =
     let l = c in
     let a = l.args in
     bank-fits a.f.now a.start a.n l.loop-i.i l.loop-i.p c.entry_count-count.result (omega arith) l.loop-i.invariant.0.1 (omega arith) c.entry_count-count.ensures.0
@@ -38,10 +36,10 @@ entry_count-count-requires c =
     omega (arith, bank-order a.f.now l.loop-i.i a.n a.start (omega arith))
 
 pub overflow_add-p : goal.overflow_add-p
-overflow_add-p c = omega (arith, room (goal.at.overflow_add-p c).After-entry_count-count)
+overflow_add-p c = omega (arith, room c)
 
 pub last_of_run-requires : goal.last_of_run-requires
-last_of_run-requires c = omega (arith, room (goal.at.last_of_run-requires c).After-entry_count-count)
+last_of_run-requires c = omega (arith, room c)
 
 pub overflow_mul-p : goal.overflow_mul-p
 overflow_mul-p c = omega (arith, room (goal.at.overflow_mul-p c).After-entry_count-count)
@@ -58,7 +56,7 @@ loop-i-preserved c =
     let k = r in
     let l = k in
     let a = l.args in
-    let next = entries-last (shift_of a.s) a.f.now a.start l.loop-i.i l.loop-i.p k.entry_count-count.result l.loop-i.last r.last_of_run.result c.later-last.result (all-bytes (goal.at.loop-i-preserved l).After-shared_slice_known-1) l.loop-i.invariant.0.1 (room k).0 k.entry_count-count.ensures.0 l.loop-i.invariant.1 r.last_of_run.ensures c.later-last.ensures in
+    let next = entries-last (shift_of a.s) a.f.now a.start l.loop-i.i l.loop-i.p k.entry_count-count.result l.loop-i.last r.last_of_run.result c.later-last.result (λ i. (l.type_inv.f i).fits) l.loop-i.invariant.0.1 (room k).0 k.entry_count-count.ensures.0 l.loop-i.invariant.1 r.last_of_run.ensures c.later-last.ensures in
     ((omega arith, (room k).1), next)
 
 pub returns : goal.returns

@@ -7,37 +7,38 @@ use borrow.Author.Rules.{rules}
 use Rattle.varint.proofs.CodeLaws.{ByteHere, Three, read-end, read_one, read-cut, read-zero, read-two, read-cut-two}
 use Rattle.varint.proofs.CodeLaws.{read-zero-three, read-long, read-large, read-three}
 use Rattle.varint.proofs.number_at.Goals as goal
+use Rattle.varint.proofs.number_at.Goals.{After-shared_slice_known-1, After-shared_slice_known-2-1, After-shared_slice_known-3-1}
 
 -- the three bytes, each where it is read
-first : (c : goal.After-shared_slice_known-1)
+first : (c : After-shared_slice_known-1)
     → (let e = c in
     ByteHere e.args.s.now e.args.k (get_or e.args.s.now e.args.k 0))
-first (goal.at.After-shared_slice_known-1 c).After-shared_slice_known-1 = record { inside = omega arith; is = refl; byte = (c.type_inv.s c.args.k).fits }
+first c = record { inside = omega arith; is = refl; byte = (c.type_inv.s c.args.k).fits }
 
-second : (c : goal.After-shared_slice_known-2-1)
+second : (c : After-shared_slice_known-2-1)
     → (let e = c in
     ByteHere e.args.s.now (e.args.k + 1) (get_or e.args.s.now (e.args.k + 1) 0))
-second (goal.at.After-shared_slice_known-2-1 c).After-shared_slice_known-2-1 =
+second c =
     let k = c.args.k in
     record { inside = omega arith; is = refl; byte = (c.type_inv.s (k + 1)).fits }
 
-third : (c : goal.After-shared_slice_known-3-1)
+third : (c : After-shared_slice_known-3-1)
     → (let e = c in
     ByteHere e.args.s.now (e.args.k + 2) (get_or e.args.s.now (e.args.k + 2) 0))
-third (goal.at.After-shared_slice_known-3-1 c).After-shared_slice_known-3-1 =
+third c =
     let k = c.args.k in
     record { inside = omega arith; is = refl; byte = (c.type_inv.s (k + 2)).fits }
 
-three : (c : goal.After-shared_slice_known-3-1)
+three : (c : After-shared_slice_known-3-1)
     → (let e = c in
     let s = e.args.s.now in
     let k = e.args.k in
     Three s k (get_or s k 0) (get_or s (k + 1) 0) (get_or s (k + 2) 0))
-three (goal.at.After-shared_slice_known-3-1 c).After-shared_slice_known-3-1 =
+three c =
     record {
       first = first (goal.at.After-shared_slice_known-3-1 c).After-shared_slice_known-1;
       second = second (goal.at.After-shared_slice_known-3-1 c).After-shared_slice_known-2-1;
-      third = third (goal.at.After-shared_slice_known-3-1 c).After-shared_slice_known-3-1;
+      third = third c;
       first_more = omega arith;
       second_more = omega arith;
     }

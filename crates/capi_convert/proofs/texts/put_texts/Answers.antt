@@ -8,6 +8,7 @@ use native.Mathlib.Omega.{arith}
 use Rattle.capi_convert.proofs.Laws.{room-and-valid}
 use borrow.Author.Rules.{rules}
 use Rattle.capi_convert.proofs.texts.put_texts.Goals as goal
+use Rattle.capi_convert.proofs.texts.put_texts.Goals.{In_default}
 
 pub returns-in-Refused : goal.returns-in-Refused
 unfolding written
@@ -16,8 +17,8 @@ returns-in-Refused c =
     record { answered = f.first-validity.ensures ∙ rw f.unless.ensures; buffer-is = rw c.in-Refused.is }
 
 -- where it is `Valid` there is room, and the texts are there
-whole : (c : goal.In_default) → (64 ≤ length c.args.out.now) × (c.args.k + 64 ≤ length c.args.s.now)
-whole (goal.at.In_default c).In_default =
+whole : (c : In_default) → (64 ≤ length c.args.out.now) × (c.args.k + 64 ≤ length c.args.s.now)
+whole c =
     let f = c in
     let a = f in
     let g = room-and-valid 64 a.args.out.now a.args.v _ (f.first-validity.ensures ∙ rw f.unless.ensures) c.in_default.is in

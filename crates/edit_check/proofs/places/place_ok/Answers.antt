@@ -9,9 +9,10 @@ use Rattle.model.proofs.KindLaws.{one_of}
 use Rattle.model.proofs.PlaceLaws.{contacts-count, channels-count, banks-count}
 use borrow.Author.Rules.{rules}
 use Rattle.edit_check.proofs.places.place_ok.Goals as goal
+use Rattle.edit_check.proofs.places.place_ok.Goals.{After-bank_count-banks}
 
-abbrev rule : goal.After-bank_count-banks → Kind → Bool
-rule (goal.at.After-bank_count-banks c).After-bank_count-banks k =
+abbrev rule : After-bank_count-banks → Kind → Bool
+rule c k =
     let a = c.args in
     place_ok k a.i a.j (codeplug_of a.f.now)
 

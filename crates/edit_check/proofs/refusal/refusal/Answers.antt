@@ -5,23 +5,18 @@ use Rattle.edits.proofs.AcceptedCodeplug.{has-layout}
 use Rattle.edit_check.proofs.RefusalLaws.{Passed, early-passed, refused-early, refused-read, refused-room}
 use borrow.Author.Rules.{rules}
 use Rattle.edit_check.proofs.refusal.refusal.Goals as goal
-
-all-bytes : (c : goal.After-shared_slice_known-1) → AllBytes c.args.f.now
-all-bytes (goal.at.After-shared_slice_known-1 c).After-shared_slice_known-1 i = (c.type_inv.f i).fits
-
-record-bytes : (c : goal.After-shared_slice_known-2-1) → AllBytes c.args.r.now
-record-bytes (goal.at.After-shared_slice_known-2-1 c).After-shared_slice_known-2-1 i = (c.type_inv.r i).fits
+use Rattle.edit_check.proofs.refusal.refusal.Goals.{After-shared_slice_known-1, In_default}
 
 -- an accepted file is laid out as one
-file-has-layout : (c : goal.After-shared_slice_known-1) → HasLayout c.args.f.now
-file-has-layout (goal.at.After-shared_slice_known-1 c).After-shared_slice_known-1 = has-layout _ c.args.f.now c.requires (all-bytes (goal.at.After-shared_slice_known-1 c).After-shared_slice_known-1)
+file-has-layout : (c : After-shared_slice_known-1) → HasLayout c.args.f.now
+file-has-layout c = has-layout _ c.args.f.now c.requires (λ i. (c.type_inv.f i).fits)
 
 -- what the edit has once the first tests let it through
-passed : (c : goal.In_default)
+passed : (c : In_default)
     → Passed c.args.k c.args.i
     c.args.j c.args.r.now
     c.args.f.now
-passed (goal.at.In_default c).In_default =
+passed c =
     let b = c in
     let a = b.args in
     early-passed a.k a.i a.j a.r.now a.f.now _ b.early_refusal-early.ensures c.in_default.is
@@ -37,7 +32,7 @@ returns-in-Refused c =
 
 pub result_validity-read-requires : goal.result_validity-read-requires
 result_validity-read-requires c =
-    let p = passed (goal.at.result_validity-read-requires c).In_default in
+    let p = passed c in
     (file-has-layout (goal.at.result_validity-read-requires c).After-shared_slice_known-1, (p.wide, p.place))
 
 pub returns-in-Refused-read : goal.returns-in-Refused-read
@@ -49,7 +44,7 @@ returns-in-Refused-read c =
     let e = s in
     let a = e.args in
     refused-read a.k a.i a.j a.r.now a.f.now a.room _ _ d.early_refusal-early.ensures t.in_default.is
-    (all-bytes (goal.at.returns-in-Refused-read s).After-shared_slice_known-1) (record-bytes (goal.at.returns-in-Refused-read s).After-shared_slice_known-2-1) e.requires _ _ _ b.result_validity-read.ensures c.in-Refused-read.is
+    (λ i. (s.type_inv.f i).fits) (λ i. (s.type_inv.r i).fits) e.requires _ _ _ b.result_validity-read.ensures c.in-Refused-read.is
 
 pub result_length-requires : goal.result_length-requires
 result_length-requires c =
@@ -66,5 +61,5 @@ returns c =
     let e = s in
     let a = e.args in
     refused-room a.k a.i a.j a.r.now a.f.now a.room _ _ d.early_refusal-early.ensures t.in_default.is
-    (all-bytes (goal.at.returns s).After-shared_slice_known-1) (record-bytes (goal.at.returns s).After-shared_slice_known-2-1) e.requires _ _ _ b.result_validity-read.ensures q.in_default-read.is
+    (λ i. (s.type_inv.f i).fits) (λ i. (s.type_inv.r i).fits) e.requires _ _ _ b.result_validity-read.ensures q.in_default-read.is
     c.result_length.ensures c.unless.ensures

@@ -9,12 +9,13 @@ use Rattle.journal.proofs.RecordLaws.{KeptRun, kept_run, from-size, from_bytes, 
 use native.Mathlib.Omega.{arith}
 use borrow.Author.Rules.{rules}
 use Rattle.journal.proofs.recording.record_entry.Goals as goal
+use Rattle.journal.proofs.recording.record_entry.Goals.{After-fitting-kept}
 
 -- what is known of the run
-run : (c : goal.After-fitting-kept)
+run : (c : After-fitting-kept)
     → (let e = c.args in
     KeptRun e.d-1.now e.used (length e.d-1.now - c.entry_size-size.result) c.fitting-kept.result)
-run (goal.at.After-fitting-kept c).After-fitting-kept =
+run c =
     let e = c in
     kept_run (λ i. (c.type_inv.d i).fits) e.requires.1.1 c.fitting-kept.ensures
 

@@ -8,33 +8,31 @@ use Rattle.journal.specs.Entry.{front_of, none}
 use Rattle.journal.proofs.ScanLaws.{HeadRead, head_read, head-broken}
 use Rattle.journal.proofs.ScanLaws.{Fitting, fitting-start, fitting-step, fitting-full, fitting-end, fitting-whole}
 use Rattle.journal.proofs.scan.fitting.Goals as goal
+use Rattle.journal.proofs.scan.fitting.Goals.{In-Broken, In-Entry}
 
 -- what stands after the bytes that are passed
-read : (c : goal.In-Entry-2)
+read : (c : In-Entry)
     → HeadRead c.args.s.now c.loop-bytes.bytes
     c.in-Entry.e
-read (goal.at.In-Entry-2 c).In-Entry-2 = head_read _ _ _ c.history_entry_at.ensures c.in-Entry.is
+read c = head_read _ _ _ c.history_entry_at.ensures c.in-Entry.is
 
-none_here : (c : goal.In-Broken)
+none_here : (c : In-Broken)
     → front_of (drop c.loop-bytes.bytes c.args.s.now) ≡ none
-none_here (goal.at.In-Broken c).In-Broken =
+none_here c =
     let l = c in
     let s = l.args.s.now in
     head-broken s l.loop-bytes.bytes (length s) c.history_entry_at.ensures c.in-Broken.is
-
-all-bytes : (c : goal.After-shared_slice_known-1) → AllBytes c.args.s.now
-all-bytes (goal.at.After-shared_slice_known-1 c).After-shared_slice_known-1 i = (c.type_inv.s i).fits
 
 pub loop-bytes-init : goal.loop-bytes-init
 loop-bytes-init c = (omega arith, fitting-start c.args.s.now c.args.space c.requires)
 
 pub loop-bytes-smaller : goal.loop-bytes-smaller
-loop-bytes-smaller c = omega (arith, read (goal.at.loop-bytes-smaller c).In-Entry-2)
+loop-bytes-smaller c = omega (arith, read (goal.at.loop-bytes-smaller c).In-Entry)
 
 pub loop-bytes-preserved : goal.loop-bytes-preserved
 loop-bytes-preserved c =
     let l = c in
-    (omega (arith, read (goal.at.loop-bytes-preserved c).In-Entry-2), fitting-step (all-bytes (goal.at.loop-bytes-preserved l).After-shared_slice_known-1) l.loop-bytes.invariant.1 (read (goal.at.loop-bytes-preserved c).In-Entry-2) (omega arith))
+    (omega (arith, read (goal.at.loop-bytes-preserved c).In-Entry), fitting-step (λ i. (l.type_inv.s i).fits) l.loop-bytes.invariant.1 (read (goal.at.loop-bytes-preserved c).In-Entry) (omega arith))
 
 pub returns-after-loop-bytes : goal.returns-after-loop-bytes
 returns-after-loop-bytes c = fitting-end c.loop-bytes.invariant.1 (omega arith)
@@ -42,7 +40,7 @@ returns-after-loop-bytes c = fitting-end c.loop-bytes.invariant.1 (omega arith)
 pub returns-then-space-next : goal.returns-then-space-next
 returns-then-space-next c =
     let l = c in
-    fitting-full (all-bytes (goal.at.returns-then-space-next l).After-shared_slice_known-1) l.loop-bytes.invariant.1 (read (goal.at.returns-then-space-next c).In-Entry-2) (omega arith) (omega arith)
+    fitting-full (λ i. (l.type_inv.s i).fits) l.loop-bytes.invariant.1 (read (goal.at.returns-then-space-next c).In-Entry) (omega arith) (omega arith)
 
 pub returns-in-Broken : goal.returns-in-Broken
-returns-in-Broken c = fitting-whole c.loop-bytes.invariant.1 (omega arith) (none_here (goal.at.returns-in-Broken c).In-Broken)
+returns-in-Broken c = fitting-whole c.loop-bytes.invariant.1 (omega arith) (none_here c)
