@@ -18,4 +18,4 @@ pub returns : goal.returns
 returns c =
     let e = c.args in
     let l = c.loop-k in
-    same-all e.a.now e.b.now e.i e.j 32 l.k l.differ l.invariant.1 (omega arith)
+    record { agree = same-all e.a.now e.b.now e.i e.j 32 l.k l.differ l.invariant.1 (omega arith) }

@@ -20,7 +20,7 @@ loop-i-preserved c =
     let e = c.args in
     let l = c.loop-i in (
       (omega arith, omega arith),
-      end_more e.a.now e.b.now l.i 32 l.invariant.1 (c.same32.ensures (not-false _ c.if-not-same32.false)) (omega arith) (omega arith),
+      end_more e.a.now e.b.now l.i 32 l.invariant.1 (c.same32.ensures.agree c.if-not-same32.false) (omega arith) (omega arith),
     )
 
 pub returns : goal.returns

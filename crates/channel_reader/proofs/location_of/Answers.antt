@@ -11,7 +11,7 @@ unfolding location_of
 returns c =
     let d = c in
     let y = c.signed_of-2 in
-    let x = d.Signed-of in
+    let x = d.signed_of in
     rw (
       to_z-of_z w8 y.result (record { sfits = y.type-inv }),
       to_z-of_z w8 x.result (record { sfits = x.type-inv }),
@@ -20,6 +20,6 @@ returns c =
       c.signed_of-2.ensures,
       c.byte_at-2.ensures,
       c.le16.ensures,
-      d.Signed-of.ensures,
+      d.signed_of.ensures,
       d.byte_at.ensures,
     )

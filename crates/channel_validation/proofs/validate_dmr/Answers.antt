@@ -15,7 +15,7 @@ returns c =
       c.byte_at-2.ensures,
       d.field-contact.ensures,
       d.field-slot.ensures,
-      d.Slot-ok.ensures,
+      d.slot_ok.ensures,
       d.byte_at.ensures,
       d.field-colours.ensures,
     )

@@ -9,7 +9,7 @@ returns c =
     rw (
       c.first.ensures,
       c.unless-slot.ensures,
-      c.Slot-ok.ensures,
+      c.slot_ok.ensures,
       c.unless-colours.ensures,
       c.nibbles_valid.ensures,
     )

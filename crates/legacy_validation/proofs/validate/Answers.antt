@@ -8,7 +8,7 @@ pub returns-in-Valid : goal.returns-in-Valid
 unfolding legacy_validation validated_by
 returns-in-Valid c =
     let e = c in
-    rw (c.Counts-of.ensures, ← e.validity_of.ensures, c.in-Valid.is)
+    rw (c.counts_of.ensures, ← e.validity_of.ensures, c.in-Valid.is)
 
 pub returns-in-Refused : goal.returns-in-Refused
 unfolding legacy_validation validated_by

@@ -7,11 +7,12 @@ use Rattle.m17.proofs.Laws.{digit-before, digit-past, digit-le}
 use native.Mathlib.Omega.{arith}
 use borrow.Author.Rules.{rules}
 use Rattle.m17_encoder.proofs.digit.Goals as goal
+use Rattle.m17_encoder.proofs.digit.Goals.{then-c-lt32-via-then-c-lt32, then-c-lt32-via-else-c-lt32+then-c-gt90}
 
 pub returns-then-c-lt32 : goal.returns-then-c-lt32
 returns-then-c-lt32 c =
     let k = c.args.c in
-    (sym (⊎_elim (λ w. digit-before k (omega arith)) (λ w. digit-past k (omega (arith, ltb-true))) c.if-c-lt32.branch), search rules)
+    (sym (elim c.then-c-lt32.branch [ then-c-lt32-via-then-c-lt32 w ↦ digit-before k (omega arith) | then-c-lt32-via-else-c-lt32+then-c-gt90 w ↦ digit-past k (omega arith) ]), search rules)
 
 pub bounds-digits-c : goal.bounds-digits-c
 bounds-digits-c c = omega (arith, ltb-false)

@@ -55,4 +55,4 @@ returns c =
     let o = k in
     let e = o in
     let m = migrated-in-two _ _ _ _ _ _ k.contact_count-contacts.ensures.0 t.migrate_contacts.ensures p.channel_place-start.ensures.0 n.channel_count-channels.ensures.0 s.migrate_channels.ensures in
-    (rw (o.Counts-of.ensures, valid (goal.at.returns e).In_default), left-migrated _ _ _ (valid (goal.at.returns e).In_default) m)
+    (rw (o.counts_of.ensures, valid (goal.at.returns e).In_default), left-migrated _ _ _ (valid (goal.at.returns e).In_default) m)

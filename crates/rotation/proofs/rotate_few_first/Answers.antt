@@ -9,12 +9,12 @@ use Rattle.rotation.proofs.rotate_few_first.Goals as goal
 pub slice_bounds-put-end-3 : goal.slice_bounds-put-end-3
 slice_bounds-put-end-3 c =
     let e = c.args in
-    sym (length-take-le e.by c.put.new.0 (search rules))
+    sym (length-take-le e.by c.put.new.dst (search rules))
 
 pub put-requires-2 : goal.put-requires-2
 put-requires-2 c =
     let e = c.args in
-    let l = length-take-le e.by c.put.new.0 (search rules) in
+    let l = length-take-le e.by c.put.new.dst (search rules) in
     omega arith
 
 pub returns : goal.returns

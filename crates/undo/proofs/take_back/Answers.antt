@@ -18,11 +18,11 @@ pub returns-then-not-revert : goal.returns-then-not-revert
 returns-then-not-revert c =
     let e = c.args in
     refused-back e.room.now e.len e.history.now e.used e.top e.entries (omega arith) (omega arith) (omega arith) (omega arith) _
-    _ _ _ c.revert.ensures (not-true _ c.if-not-revert.true)
+    _ _ _ c.revert.ensures c.if-not-revert.true
 
 pub returns : goal.returns
 returns c =
     let e = c.args in
     taken_back e.room.now e.len e.history.now e.used e.top e.entries (omega arith) (omega arith) (omega arith) (omega arith) _
-    _ _ _ _ c.revert.ensures (not-false _ c.if-not-revert.false) (omega arith) (omega arith) (omega arith)
+    _ _ _ _ c.revert.ensures c.if-not-revert.false (omega arith) (omega arith) (omega arith)
     c.drop_front.ensures

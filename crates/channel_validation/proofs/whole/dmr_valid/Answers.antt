@@ -8,4 +8,4 @@ pub returns : goal.returns
 unfolding dmr_rule
 returns c base =
     let whole = c.requires in
-    rw c.Slot-ok.ensures (simp (valid-both, valid-field, whole))
+    rw c.slot_ok.ensures (simp (valid-both, valid-field, whole))

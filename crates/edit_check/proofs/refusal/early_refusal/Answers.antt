@@ -12,14 +12,14 @@ pub returns-then-not-place_ok : goal.returns-then-not-place_ok
 unfolding unless ◌then◌
 returns-then-not-place_ok c =
     let l = c in
-    rw (← l.record_length.ensures, eq-eqb _ _ l.if-r-record_length.false, ← c.Place-ok.ensures, not-true c.Place-ok.result c.if-not-place_ok.true)
+    rw (← l.record_length.ensures, eq-eqb _ _ l.if-r-record_length.false, ← c.place_ok.ensures, c.if-not-place_ok.true)
 
 pub returns-then-not-count_ok : goal.returns-then-not-count_ok
 unfolding unless ◌then◌
 returns-then-not-count_ok c =
     let p = c in
     let l = p in
-    rw (← l.record_length.ensures, eq-eqb _ _ l.if-r-record_length.false, ← p.Place-ok.ensures, not-false p.Place-ok.result p.if-not-place_ok.false, ← c.count_ok.ensures, not-true c.count_ok.result c.if-not-count_ok.true)
+    rw (← l.record_length.ensures, eq-eqb _ _ l.if-r-record_length.false, ← p.place_ok.ensures, p.if-not-place_ok.false, ← c.count_ok.ensures, c.if-not-count_ok.true)
 
 pub returns : goal.returns
 unfolding unless ◌then◌
@@ -27,7 +27,7 @@ returns c =
     let n = c in
     let p = n in
     let l = p in
-    rw (c.unless.ensures, c.in_use.ensures, ← l.record_length.ensures, eq-eqb _ _ l.if-r-record_length.false, ← p.Place-ok.ensures, not-false p.Place-ok.result p.if-not-place_ok.false, ← n.count_ok.ensures, not-false n.count_ok.result n.if-not-count_ok.false)
+    rw (c.unless.ensures, c.in_use.ensures, ← l.record_length.ensures, eq-eqb _ _ l.if-r-record_length.false, ← p.place_ok.ensures, p.if-not-place_ok.false, ← n.count_ok.ensures, n.if-not-count_ok.false)
 
 pub place_ok-requires : goal.place_ok-requires
 place_ok-requires c =
