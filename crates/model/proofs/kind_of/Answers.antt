@@ -3,14 +3,6 @@ use Rattle.model.specs.Kinds.{kind_of}
 use borrow.Author.Tests.{ne_eqb}
 use Rattle.model.proofs.kind_of.Goals as goal
 
-pub returns-in_default : goal.returns-in_default
-unfolding kind_of
-returns-in_default c =
-    let r = c.in-1.rest in
-    let s = r.0.0.0.0 in
-    let t = s.0.0.0.0 in
-    simp (ne_eqb, r.1, r.0.1, r.0.0.1, r.0.0.0.1, s.1, s.0.1, s.0.0.1, s.0.0.0.1, t.1, t.0.1, t.0.0.1, t.0.0.0.1)
-
 pub returns-in-1 : goal.returns-in-1
 unfolding kind_of
 returns-in-1 c =
