@@ -12,11 +12,11 @@ use Rattle.editor.proofs.commit.Goals.{After-slice_known-1}
 -- the change, at the entry
 planned-change : (c : After-slice_known-1)
     → (let e = c.args in
-    Changes e.room-1.now e.len e.history-1.now e.used (planned e.plan e.bytes.now (take e.len e.room-1.now)) e.s)
+    Changes e.room.now e.len e.history-1.now e.used (planned e.plan e.bytes.now (take e.len e.room.now)) e.s)
 planned-change c =
     let e = c.args in
     let p = c.requires in
-    changes e.room-1.now e.len e.history-1.now e.used (planned e.plan e.bytes.now (take e.len e.room-1.now)) _ e.s
+    changes e.room.now e.len e.history-1.now e.used (planned e.plan e.bytes.now (take e.len e.room.now)) _ e.s
     p.0.0.1 p.1.0.1 p.1.1.0
 
 pub overflow_sub-new : goal.overflow_sub-new

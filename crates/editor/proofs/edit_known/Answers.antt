@@ -11,19 +11,19 @@ use Rattle.editor.proofs.edit_known.Goals.{After-plan_of-plan, In_default}
 
 passed : (c : In_default)
     → (let e = c.args in
-    Passes e.edition e.k e.i e.j e.bytes.now (length e.room-1.now) (take e.len e.room-1.now))
+    Passes e.edition e.k e.i e.j e.bytes.now (length e.room.now) (take e.len e.room.now))
 passed c =
     let e = c.args in
-    passes _ e.k e.i e.j e.bytes.now (length e.room-1.now) (take e.len e.room-1.now) _ c.refusal.ensures c.in_default.is
+    passes _ e.k e.i e.j e.bytes.now (length e.room.now) (take e.len e.room.now) _ c.refusal.ensures c.in_default.is
 
 plan : (c : After-plan_of-plan)
     → (let e = c.args in
-    Planned e.k e.i e.j e.bytes.now (length e.room-1.now) (take e.len e.room-1.now) c.plan_of-plan.result)
+    Planned e.k e.i e.j e.bytes.now (length e.room.now) (take e.len e.room.now) c.plan_of-plan.result)
 plan c =
     let t = c in
     let b = t in
     let e = b.args in
-    plans _ e.k e.i e.j e.bytes.now (length e.room-1.now) (take e.len e.room-1.now) _ (passed t) (λ n. (b.type_inv.bytes n).fits)
+    plans _ e.k e.i e.j e.bytes.now (length e.room.now) (take e.len e.room.now) _ (passed t) (λ n. (b.type_inv.bytes n).fits)
     c.plan_of-plan.ensures
 
 pub slice_bounds-refusal-end : goal.slice_bounds-refusal-end

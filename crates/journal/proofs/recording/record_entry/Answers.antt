@@ -14,7 +14,7 @@ use Rattle.journal.proofs.recording.record_entry.Goals.{After-fitting-kept}
 -- what is known of the run
 run : (c : After-fitting-kept)
     → (let e = c.args in
-    KeptRun e.d-1.now e.used (length e.d-1.now - c.entry_size-size.result) c.fitting-kept.result)
+    KeptRun e.d.now e.used (length e.d.now - c.entry_size-size.result) c.fitting-kept.result)
 run c =
     let e = c in
     kept_run (λ i. (c.type_inv.d i).fits) e.requires.1.1 c.fitting-kept.ensures
