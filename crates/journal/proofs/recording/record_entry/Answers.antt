@@ -42,7 +42,7 @@ returns c =
     let n = entry_from a.s a.old.now in
     let s = from-size a.s a.old.now e.requires.0.0.1 in
     let b = from_bytes a.s a.old.now e.requires.0.0.1 in (
-      history-first-run (run k) n (omega (arith, z.entry_size-size.ensures))
+      history-first-run (run (goal.at.returns c).After-fitting-kept) n (omega (arith, z.entry_size-size.ensures))
           (w.write_entry.ensures ∙ v.reserve.ensures.filled (entry_bytes n) (omega (arith, z.entry_size-size.ensures))),
-      run-first (run k) n _ (omega (arith, z.entry_size-size.ensures)) (omega (arith, z.entry_size-size.ensures)),
+      run-first (run (goal.at.returns c).After-fitting-kept) n _ (omega (arith, z.entry_size-size.ensures)) (omega (arith, z.entry_size-size.ensures)),
     )
