@@ -7,6 +7,7 @@ use fields::numbers::{byte_at, le64};
 use journal::answer::Answer;
 use layout::places::record_bytes;
 use m17::Edition;
+use std::io::{Result, Write};
 use undo::undo;
 
 // The first call of s: an undo, or an edit with its kind, places and record.
@@ -57,14 +58,15 @@ fn used_after(a: Answer, used: usize) -> usize {
 }
 
 // Makes the calls that a list's bytes hold, by one edition.
-pub(crate) fn make(
+pub(crate) fn make<W: Write>(
+    out: &mut W,
     calls: &[u8],
     room: &mut [u8],
     room_length: usize,
     history: &mut [u8],
     history_length: usize,
     edition: Edition,
-)
+) -> Result<()>
     requires { length calls.now < 2 ^ 32 }
 {
     let mut k = 0;
@@ -73,9 +75,10 @@ pub(crate) fn make(
     while k < calls.len() {
         let s = &calls[k..];
         let answer = call(s, room, len, history, used, edition);
-        print::line(answer, room, history);
+        print::line(out, answer, room, history)?;
         len = length_after(answer, len);
         used = used_after(answer, used);
         k += call_size(s);
     }
+    Ok(())
 }

@@ -1,52 +1,64 @@
 // Makes the lists of calls of a corpus on standard input, one line for each call, as the second program writes them (tests/second/README.md).
+#![tactic(auto)]
+
 mod calls; // calls.rt: the calls of a list
 mod print; // print.rt: the line of a call
 
-ghost use Rattle.io.specs.Counts.{IsPrefixLen};
-
 use fields::numbers::{le32, le64};
-use libc::STDIN_FILENO;
 use m17::edition_of;
-
-// Reads so many bytes into the start of a buffer, as many as it has at most, and answers how many.
-fn bytes(size: u32, buffer: &mut [u8]) -> usize
-    ensures { IsPrefixLen result buffer.new }
-{
-    let n = io::count(size as isize, buffer);
-    io::read_full(STDIN_FILENO, &mut buffer[..n]);
-    n
-}
+use program_io::input::{LARGE, bytes, read_full};
+use std::alloc::Global;
+use std::io::{BufWriter, Read, Result, Write};
 
 // Reads the room, the history and the calls of a list with these numbers (its length; the sizes of the three; the edition; the two lengths), makes the
 // calls, and answers whether there were any.
-fn with_numbers(numbers: &[u8], room: &mut [u8], history: &mut [u8]) -> bool {
-    let mut calls = io::large_buffer();
-    let n = bytes(le32(numbers, 4), room);
-    let m = bytes(le32(numbers, 8), history);
-    let k = bytes(le32(numbers, 12), &mut calls);
+fn with_numbers<R: Read, W: Write>(
+    alloc: Global,
+    input: &mut R,
+    out: &mut W,
+    numbers: &[u8],
+    room: &mut [u8],
+    history: &mut [u8],
+) -> Result<bool> {
+    let mut calls = vec![in alloc; 0u8; LARGE]?;
+    let n = bytes(input, le32(numbers, 4), room)?;
+    let m = bytes(input, le32(numbers, 8), history)?;
+    let k = bytes(input, le32(numbers, 12), &mut calls)?;
     calls::make(
+        out,
         &calls[..k],
         &mut room[..n],
         le64(numbers, 20) as usize,
         &mut history[..m],
         le64(numbers, 28) as usize,
         edition_of(le32(numbers, 16)),
-    );
-    0 < k
+    )?;
+    Ok(0 < k)
 }
 
 // Whether there was a list. Past the end of the input every number is 0.
-fn one_list(room: &mut [u8], history: &mut [u8]) -> bool {
+fn one_list<R: Read, W: Write>(
+    alloc: Global,
+    input: &mut R,
+    out: &mut W,
+    room: &mut [u8],
+    history: &mut [u8],
+) -> Result<bool> {
     let mut numbers = [0u8; 36];
-    io::read_full(STDIN_FILENO, &mut numbers);
-    with_numbers(&numbers, room, history)
+    read_full(input, &mut numbers)?;
+    with_numbers(alloc, input, out, &numbers, room, history)
 }
 
-fn main() {
-    let mut room = io::large_buffer();
-    let mut history = io::large_buffer();
-    let mut turns = 0u32;
-    while turns < 1_000_000 && one_list(&mut room, &mut history) {
-        turns += 1;
+fn main(rt: HostRuntime) -> Result<()> {
+    let alloc = rt.alloc();
+    let mut input = rt.reader();
+    let mut out = BufWriter::new(alloc, rt.stdout())?;
+    let mut room = vec![in alloc; 0u8; LARGE]?;
+    let mut history = vec![in alloc; 0u8; LARGE]?;
+    for _ in 0..1_000_000 {
+        if !one_list(alloc, &mut input, &mut out, &mut room, &mut history)? {
+            break;
+        }
     }
+    out.flush()
 }

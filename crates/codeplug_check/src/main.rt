@@ -1,47 +1,49 @@
 // Validates the codeplug on standard input and prints one line: "ok", with the counts of contacts, channels and banks, or the refusal
 // and its place. It takes at most 65,536 bytes, and reads addresses by the older edition.
-use libc::{STDIN_FILENO, STDOUT_FILENO};
+#![tactic(auto)]
+
 use m17::Edition;
+use program_io::input::{LARGE, read_full};
+use program_io::print::{number, refused, word};
+use std::io::{Read, Result, Write};
 use validation::Validated;
 
-fn print_refusal(number: u8, place: usize) {
-    io::write_all(STDOUT_FILENO, b"refused ");
-    io::print_decimal(STDOUT_FILENO, number as u64);
-    io::write_all(STDOUT_FILENO, b" at ");
-    io::print_decimal(STDOUT_FILENO, place as u64);
-    io::write_all(STDOUT_FILENO, b"\n");
+fn print_refusal<W: Write>(out: &mut W, n: u8, place: usize) -> Result<()> {
+    refused(out, n, place)?;
+    word(out, b"\n")
 }
 
-fn print_count(n: u16) {
-    io::write_all(STDOUT_FILENO, b" ");
-    io::print_decimal(STDOUT_FILENO, n as u64);
+fn print_count<W: Write>(out: &mut W, n: u16) -> Result<()> {
+    number(out, b" ", n as u64)
 }
 
-fn print_validated(j: Validated) {
+fn print_validated<W: Write>(out: &mut W, j: Validated) -> Result<()> {
     match j {
         Validated::Accepted(c) => {
-            io::write_all(STDOUT_FILENO, b"ok");
-            print_count(c.contacts);
-            print_count(c.channels);
-            print_count(c.banks);
-            io::write_all(STDOUT_FILENO, b"\n");
+            word(out, b"ok")?;
+            print_count(out, c.contacts)?;
+            print_count(out, c.channels)?;
+            print_count(out, c.banks)?;
+            word(out, b"\n")
         }
-        Validated::Refused(number, place) => print_refusal(number, place),
+        Validated::Refused(n, place) => print_refusal(out, n, place),
     }
 }
 
-// Whether standard input still has a byte.
-fn has_more() -> bool {
+// Whether the input still has a byte.
+fn has_more<R: Read>(input: &mut R) -> Result<bool> {
     let mut one = [0u8; 1];
-    0 < io::read_full(STDIN_FILENO, &mut one)
+    let n = read_full(input, &mut one)?;
+    Ok(0 < n)
 }
 
-fn main() {
-    let mut buffer = io::large_buffer();
-    let n = io::read_full(STDIN_FILENO, &mut buffer);
-    if has_more() {
-        print_refusal(1, 0);
-        return;
+fn main(rt: HostRuntime) -> Result<()> {
+    let mut input = rt.reader();
+    let mut out = rt.stdout();
+    let mut buffer = vec![in rt.alloc(); 0u8; LARGE]?;
+    let n = read_full(&mut input, &mut buffer)?;
+    if has_more(&mut input)? {
+        return print_refusal(&mut out, 1, 0);
     }
-    print_validated(validation::validate(&buffer[..n], Edition::Older));
+    print_validated(&mut out, validation::validate(&buffer[..n], Edition::Older))
 }

@@ -1,19 +1,21 @@
 // Channels read, as their lines have them.
-use crate::print::{NONE, form, refused, text, word};
+use crate::print::{NONE, form};
 use bits::signed_byte;
 use channel::{Channel, Common, ContactIndex, DmrInfo, FmInfo, Info, Location, M17Info};
 use fields::rule::Validity;
+use program_io::print::{refused, text, word};
+use std::io::{Result, Write};
 use tones::{Frequency, Tone};
 
-fn mode(i: Info) {
+fn mode<W: Write>(out: &mut W, i: Info) -> Result<()> {
     match i {
-        Info::Fm(_) => word(b"fm"),
-        Info::Dmr(_) => word(b"dmr"),
-        Info::M17(_) => word(b"m17"),
+        Info::Fm(_) => word(out, b"fm"),
+        Info::Dmr(_) => word(out, b"dmr"),
+        Info::M17(_) => word(out, b"m17"),
     }
 }
 
-fn common(c: Common) {
+fn common<W: Write>(out: &mut W, c: Common) -> Result<()> {
     let numbers = [
         c.traits.bandwidth as u64,
         c.traits.receive_only as u64,
@@ -24,9 +26,10 @@ fn common(c: Common) {
         c.group_list as u64,
     ];
     form(
+        out,
         b" bandwidth=# rxonly=# power=# rx=# tx=# scan=# group=#",
         &numbers,
-    );
+    )
 }
 
 fn signed(z: i8) -> u64 {
@@ -34,7 +37,7 @@ fn signed(z: i8) -> u64 {
     if b < 128 { b } else { 18446744073709551360 + b }
 }
 
-fn location(l: Location) {
+fn location<W: Write>(out: &mut W, l: Location) -> Result<()> {
     let numbers = [
         signed(l.latitude),
         l.latitude_e4 as u64,
@@ -42,7 +45,7 @@ fn location(l: Location) {
         l.longitude_e4 as u64,
         l.altitude_plus_500 as u64,
     ];
-    form(b" lat=# latfrac=# lon=# lonfrac=# alt=#", &numbers);
+    form(out, b" lat=# latfrac=# lon=# lonfrac=# alt=#", &numbers)
 }
 
 fn frequency(index: u8) -> u64 {
@@ -52,25 +55,25 @@ fn frequency(index: u8) -> u64 {
     }
 }
 
-fn tone_numbers(enabled: u64, index: u8) {
+fn tone_numbers<W: Write>(out: &mut W, enabled: u64, index: u8) -> Result<()> {
     let numbers = [enabled, index as u64, frequency(index)];
-    form(b"#:#:#", &numbers);
+    form(out, b"#:#:#", &numbers)
 }
 
-fn tone(t: Tone) {
+fn tone<W: Write>(out: &mut W, t: Tone) -> Result<()> {
     match t {
-        Tone::Enabled(i) => tone_numbers(1, i),
-        Tone::Disabled(i) => tone_numbers(0, i),
+        Tone::Enabled(i) => tone_numbers(out, 1, i),
+        Tone::Disabled(i) => tone_numbers(out, 0, i),
     }
 }
 
-fn fm(i: FmInfo) {
+fn fm<W: Write>(out: &mut W, i: FmInfo) -> Result<()> {
     let receive = i.receive;
     let transmit = i.transmit;
-    word(b" rxtone=");
-    tone(receive);
-    word(b" txtone=");
-    tone(transmit);
+    word(out, b" rxtone=")?;
+    tone(out, receive)?;
+    word(out, b" txtone=")?;
+    tone(out, transmit)
 }
 
 fn called(c: ContactIndex) -> u64 {
@@ -80,7 +83,7 @@ fn called(c: ContactIndex) -> u64 {
     }
 }
 
-fn dmr(i: DmrInfo) {
+fn dmr<W: Write>(out: &mut W, i: DmrInfo) -> Result<()> {
     let contact = i.contact;
     let numbers = [
         i.colours.high as u64,
@@ -88,10 +91,10 @@ fn dmr(i: DmrInfo) {
         i.slot as u64,
         called(contact),
     ];
-    form(b" rxcolour=# txcolour=# slot=# contact=#", &numbers);
+    form(out, b" rxcolour=# txcolour=# slot=# contact=#", &numbers)
 }
 
-fn m17(i: M17Info) {
+fn m17<W: Write>(out: &mut W, i: M17Info) -> Result<()> {
     let contact = i.contact;
     let numbers = [
         i.access.high as u64,
@@ -102,37 +105,38 @@ fn m17(i: M17Info) {
         called(contact),
     ];
     form(
+        out,
         b" rxcan=# txcan=# operation=# encryption=# position=# contact=#",
         &numbers,
-    );
+    )
 }
 
-fn info(i: Info) {
+fn info<W: Write>(out: &mut W, i: Info) -> Result<()> {
     match i {
-        Info::Fm(f) => fm(f),
-        Info::Dmr(d) => dmr(d),
-        Info::M17(m) => m17(m),
+        Info::Fm(f) => fm(out, f),
+        Info::Dmr(d) => dmr(out, d),
+        Info::M17(m) => m17(out, m),
     }
 }
 
-fn show(c: Channel) {
+fn show<W: Write>(out: &mut W, c: Channel) -> Result<()> {
     let name = c.name;
     let description = c.description;
     let values = c.common;
     let own = c.info;
-    mode(own);
-    common(values);
-    text(b" name=", &name);
-    text(b" desc=", &description);
-    location(values.location);
-    info(own);
+    mode(out, own)?;
+    common(out, values)?;
+    text(out, b" name=", &name)?;
+    text(out, b" desc=", &description)?;
+    location(out, values.location)?;
+    info(out, own)
 }
 
-pub(crate) fn read(record: &[u8]) {
+pub(crate) fn read<W: Write>(out: &mut W, record: &[u8]) -> Result<()> {
     let read = channel_reader::read(record);
     let validity = read.validity;
     match validity {
-        Validity::Valid => show(read.channel),
-        Validity::Refused(n, p) => refused(n, p),
+        Validity::Valid => show(out, read.channel),
+        Validity::Refused(n, p) => refused(out, n, p),
     }
 }

@@ -1,25 +1,33 @@
 // Answers the cases of a corpus of channels read on standard input, one line each, as the second program writes them (tests/second/README.md).
+#![tactic(auto)]
+
 mod channels; // channels.rt: channels read
-mod input; // input.rt: a case
-mod print; // print.rt: words, numbers and bytes
+mod print; // print.rt: numbers, and forms of several
 
 use layout::places::record_bytes;
+use program_io::input::{LARGE, case};
+use program_io::print::word;
+use std::io::{BufWriter, Read, Result, Write};
 
 // Whether there was a case: a byte that says that it is a channel, one that says "read", and the record.
-fn one_case(buffer: &mut [u8]) -> bool {
-    let n = input::case(buffer);
+fn one_case<R: Read, W: Write>(input: &mut R, out: &mut W, buffer: &mut [u8]) -> Result<bool> {
+    let n = case(input, buffer)?;
     if n == 0 {
-        return false;
+        return Ok(false);
     }
-    channels::read(record_bytes(&buffer[..n], 2, 65536));
-    print::word(b"\n");
-    true
+    channels::read(out, record_bytes(&buffer[..n], 2, 65536))?;
+    word(out, b"\n")?;
+    Ok(true)
 }
 
-fn main() {
-    let mut buffer = io::large_buffer();
-    let mut turns = 0u32;
-    while turns < 1_000_000 && one_case(&mut buffer) {
-        turns += 1;
+fn main(rt: HostRuntime) -> Result<()> {
+    let mut input = rt.reader();
+    let mut out = BufWriter::new(rt.alloc(), rt.stdout())?;
+    let mut buffer = vec![in rt.alloc(); 0u8; LARGE]?;
+    for _ in 0..1_000_000 {
+        if !one_case(&mut input, &mut out, &mut buffer)? {
+            break;
+        }
     }
+    out.flush()
 }

@@ -1,45 +1,43 @@
 // Migrates the files of a corpus on standard input, one line each, as the second program writes them (tests/second/README.md).
+#![tactic(auto)]
+
 mod print; // print.rt: the line of a case
 
-ghost use Rattle.io.specs.Counts.{IsPrefixLen};
-
 use fields::numbers::{byte_at, le32};
-use libc::STDIN_FILENO;
 use m17::{Edition, edition_of};
+use program_io::input::{LARGE, bytes, read_full};
+use std::io::{BufWriter, Read, Result, Write};
 
-// Reads so many bytes into the start of a buffer, as many as it has at most, and answers how many.
-fn bytes(size: u32, buffer: &mut [u8]) -> usize
-    ensures { IsPrefixLen result buffer.new }
-{
-    let n = io::count(size as isize, buffer);
-    io::read_full(STDIN_FILENO, &mut buffer[..n]);
-    n
-}
-
-fn migrate(file: &mut [u8], edition: Edition) {
+fn migrate<W: Write>(out: &mut W, file: &mut [u8], edition: Edition) -> Result<()> {
     let answer = migration::migrate(file, edition);
-    print::line(answer, file);
+    print::line(out, answer, file)
 }
 
 // Whether there was a case: a length of four bytes, low byte first, the edition's byte and then a file, which may be empty. The length counts the edition.
-fn one_case(buffer: &mut [u8]) -> bool {
+fn one_case<R: Read, W: Write>(input: &mut R, out: &mut W, buffer: &mut [u8]) -> Result<bool> {
     let mut head = [0u8; 5];
-    if io::read_full(STDIN_FILENO, &mut head) < 5 {
-        return false;
+    let got = read_full(input, &mut head)?;
+    if got < 5 {
+        return Ok(false);
     }
     let size = le32(&head, 0);
     if size == 0 {
-        return false;
+        return Ok(false);
     }
-    let n = bytes(size - 1, buffer);
-    migrate(&mut buffer[..n], edition_of(byte_at(&head, 4) as u32));
-    true
+    let n = bytes(input, size - 1, buffer)?;
+    let edition = edition_of(byte_at(&head, 4) as u32);
+    migrate(out, &mut buffer[..n], edition)?;
+    Ok(true)
 }
 
-fn main() {
-    let mut buffer = io::large_buffer();
-    let mut turns = 0u32;
-    while turns < 1_000_000 && one_case(&mut buffer) {
-        turns += 1;
+fn main(rt: HostRuntime) -> Result<()> {
+    let mut input = rt.reader();
+    let mut out = BufWriter::new(rt.alloc(), rt.stdout())?;
+    let mut buffer = vec![in rt.alloc(); 0u8; LARGE]?;
+    for _ in 0..1_000_000 {
+        if !one_case(&mut input, &mut out, &mut buffer)? {
+            break;
+        }
     }
+    out.flush()
 }

@@ -1,41 +1,21 @@
 // The line of a case: the answer, and a sum over the whole file after the call.
-use fields::numbers::wide_at;
-use libc::STDOUT_FILENO;
+use program_io::print::{checksum, number, refused, word};
+use std::io::{Result, Write};
 use validation::Validated;
 
-// A number after what says which.
-fn number(label: &[u8], n: u64) {
-    io::write_all(STDOUT_FILENO, label);
-    io::print_decimal(STDOUT_FILENO, n);
-}
-
-fn words(a: Validated) {
+fn words<W: Write>(out: &mut W, a: Validated) -> Result<()> {
     match a {
         Validated::Accepted(c) => {
-            number(b"ok ", c.contacts as u64);
-            number(b" ", c.channels as u64);
-            number(b" ", c.banks as u64);
+            number(out, b"ok ", c.contacts as u64)?;
+            number(out, b" ", c.channels as u64)?;
+            number(out, b" ", c.banks as u64)
         }
-        Validated::Refused(n, p) => {
-            number(b"refused ", n as u64);
-            number(b" at ", p as u64);
-        }
+        Validated::Refused(n, p) => refused(out, n, p),
     }
 }
 
-// A sum that tells files apart.
-fn checksum(s: &[u8]) -> u64 {
-    let mut h = 0u64;
-    let mut i = 0;
-    while i < s.len() {
-        h = (h * 257 + wide_at(s, i) + 1) % 2147483647;
-        i += 1;
-    }
-    h
-}
-
-pub(crate) fn line(a: Validated, file: &[u8]) {
-    words(a);
-    number(b" file ", checksum(file));
-    io::write_all(STDOUT_FILENO, b"\n");
+pub(crate) fn line<W: Write>(out: &mut W, a: Validated, file: &[u8]) -> Result<()> {
+    words(out, a)?;
+    number(out, b" file ", checksum(file))?;
+    word(out, b"\n")
 }

@@ -1,38 +1,39 @@
 // Contacts read, as their lines have them.
-use crate::print;
 use contact::{Contact, ContactInfo, DmrContact};
 use fields::rule::Validity;
 use m17::{Address, Edition};
+use program_io::print;
+use std::io::{Result, Write};
 
-fn m17(a: Address, name: &[u8]) {
-    print::text(b"m17 name=", name);
+fn m17<W: Write>(out: &mut W, a: Address, name: &[u8]) -> Result<()> {
+    print::text(out, b"m17 name=", name)?;
     match a {
-        Address::Callsign(n) => print::number(b" callsign=", n),
-        Address::Broadcast => print::word(b" broadcast"),
+        Address::Callsign(n) => print::number(out, b" callsign=", n),
+        Address::Broadcast => print::word(out, b" broadcast"),
     }
 }
 
-fn dmr(d: DmrContact, name: &[u8]) {
-    print::text(b"dmr name=", name);
-    print::number(b" id=", d.id as u64);
-    print::number(b" type=", d.settings.contact_type as u64);
-    print::number(b" rxtone=", d.settings.rx_tone as u64);
+fn dmr<W: Write>(out: &mut W, d: DmrContact, name: &[u8]) -> Result<()> {
+    print::text(out, b"dmr name=", name)?;
+    print::number(out, b" id=", d.id as u64)?;
+    print::number(out, b" type=", d.settings.contact_type as u64)?;
+    print::number(out, b" rxtone=", d.settings.rx_tone as u64)
 }
 
-fn show(c: Contact) {
+fn show<W: Write>(out: &mut W, c: Contact) -> Result<()> {
     let name = c.name;
     let info = c.info;
     match info {
-        ContactInfo::Dmr(d) => dmr(d, &name),
-        ContactInfo::M17(a) => m17(a, &name),
+        ContactInfo::Dmr(d) => dmr(out, d, &name),
+        ContactInfo::M17(a) => m17(out, a, &name),
     }
 }
 
-pub(crate) fn read(record: &[u8], edition: Edition) {
+pub(crate) fn read<W: Write>(out: &mut W, record: &[u8], edition: Edition) -> Result<()> {
     let read = contact_reader::read(record, edition);
     let validity = read.validity;
     match validity {
-        Validity::Valid => show(read.contact),
-        Validity::Refused(n, p) => print::refused(n, p),
+        Validity::Valid => show(out, read.contact),
+        Validity::Refused(n, p) => print::refused(out, n, p),
     }
 }

@@ -1,9 +1,10 @@
 // Answers the cases of a corpus of records written and numbers to texts on standard input, one line each, as the second program writes them
 // (tests/second/README.md).
+#![tactic(auto)]
+
 mod channels; // channels.rt: a channel to write
 mod contacts; // contacts.rt: a contact to write
-mod input; // input.rt: a case
-mod print; // print.rt: words, numbers and bytes
+mod print; // print.rt: a call's answer, and a whole buffer
 mod strings; // strings.rt: the strings in a case
 
 ghost use Rattle.std.specs.Prelude.{◌<◌};
@@ -13,12 +14,15 @@ use fields::numbers::{byte_at, le64};
 use fields::rule::Validity;
 use layout::places::record_bytes;
 use m17::{Decoded, Edition, edition_of};
+use program_io::input::case;
+use program_io::print::{refused, word};
+use std::io::{BufWriter, Read, Result, Write};
 
-fn decoded(d: Decoded) {
+fn decoded<W: Write>(out: &mut W, d: Decoded) -> Result<()> {
     match d {
-        Decoded::Text(_) => print::word(b"text"),
-        Decoded::Broadcast => print::word(b"broadcast"),
-        Decoded::Refused(n, p) => print::refused(n, p),
+        Decoded::Text(_) => word(out, b"text"),
+        Decoded::Broadcast => word(out, b"broadcast"),
+        Decoded::Refused(n, p) => refused(out, n, p),
     }
 }
 
@@ -28,55 +32,65 @@ fn edition_at(case: &[u8]) -> Edition {
 }
 
 // A number's text, over a buffer.
-fn decode(n: u64, out: &mut [u8], edition: Edition) {
-    decoded(m17_decoder::decode(n, out, edition));
-    print::buffer(out);
+fn decode<W: Write>(out: &mut W, n: u64, room: &mut [u8], edition: Edition) -> Result<()> {
+    decoded(out, m17_decoder::decode(n, room, edition))?;
+    print::buffer(out, room)
 }
 
 // The record that stands in a case from k on, over a buffer.
-fn record(case: &[u8], k: usize, out: &mut [u8]) -> Validity
+fn record(case: &[u8], k: usize, room: &mut [u8]) -> Validity
     requires { k < 300 }
 {
     if byte_at(case, 0) % 4 == 1 {
-        return contacts::write(case, k, out, edition_at(case));
+        return contacts::write(case, k, room, edition_at(case));
     }
-    channels::write(case, k, out)
+    channels::write(case, k, room)
 }
 
 // The same, with its line.
-fn write(case: &[u8], k: usize, out: &mut [u8])
+fn write<W: Write>(out: &mut W, case: &[u8], k: usize, room: &mut [u8]) -> Result<()>
     requires { k < 300 }
 {
-    print::validity(record(case, k, out));
-    print::buffer(out);
+    print::validity(out, record(case, k, room))?;
+    print::buffer(out, room)
 }
 
 // A record stands behind the output buffer before the call, a number before the text buffer.
-fn answer(case: &[u8], scratch: &mut [u8]) {
+fn answer<W: Write>(out: &mut W, case: &[u8], scratch: &mut [u8]) -> Result<()> {
     if byte_at(case, 0) % 4 < 3 {
         let n = put_first(scratch, string(case, 2));
-        write(case, past_string(case, 2), &mut scratch[..n]);
+        write(out, case, past_string(case, 2), &mut scratch[..n])
     } else {
         let n = put_first(scratch, record_bytes(case, 10, 65536));
-        decode(le64(case, 2), &mut scratch[..n], edition_at(case));
+        let edition = edition_at(case);
+        decode(out, le64(case, 2), &mut scratch[..n], edition)
     }
 }
 
 // Whether there was a case.
-fn one_case(buffer: &mut [u8], scratch: &mut [u8]) -> bool {
-    let n = input::case(buffer);
+fn one_case<R: Read, W: Write>(
+    input: &mut R,
+    out: &mut W,
+    buffer: &mut [u8],
+    scratch: &mut [u8],
+) -> Result<bool> {
+    let n = case(input, buffer)?;
     if n == 0 {
-        return false;
+        return Ok(false);
     }
-    answer(&buffer[..n], scratch);
-    true
+    answer(out, &buffer[..n], scratch)?;
+    Ok(true)
 }
 
-fn main() {
-    let mut buffer = io::buffer();
-    let mut scratch = io::buffer();
-    let mut turns = 0u32;
-    while turns < 1_000_000 && one_case(&mut buffer, &mut scratch) {
-        turns += 1;
+fn main(rt: HostRuntime) -> Result<()> {
+    let mut input = rt.reader();
+    let mut out = BufWriter::new(rt.alloc(), rt.stdout())?;
+    let mut buffer = [0u8; 4096];
+    let mut scratch = [0u8; 4096];
+    for _ in 0..1_000_000 {
+        if !one_case(&mut input, &mut out, &mut buffer, &mut scratch)? {
+            break;
+        }
     }
+    out.flush()
 }

@@ -1,46 +1,18 @@
-// Words, numbers and bytes, as lines have them.
-use fields::numbers::wide_at;
+// A call's answer and a whole buffer, as lines have them.
 use fields::rule::Validity;
-use libc::STDOUT_FILENO;
+use program_io::print::{bytes, refused, word};
+use std::io::{Result, Write};
 
-pub(crate) fn word(s: &[u8]) {
-    io::write_all(STDOUT_FILENO, s);
-}
-
-// A number after what says which.
-fn number(label: &[u8], n: u64) {
-    word(label);
-    io::print_decimal(STDOUT_FILENO, n);
-}
-
-pub(crate) fn refused(n: u8, place: usize) {
-    number(b"refused ", n as u64);
-    number(b" at ", place as u64);
-}
-
-// Two digits for each byte, or a hyphen for no bytes.
-fn bytes(s: &[u8]) {
-    if s.len() == 0 {
-        word(b"-");
-        return;
-    }
-    let mut i = 0;
-    while i < s.len() {
-        io::print_hex(STDOUT_FILENO, wide_at(s, i), 2);
-        i += 1;
-    }
-}
-
-pub(crate) fn validity(v: Validity) {
+pub(crate) fn validity<W: Write>(out: &mut W, v: Validity) -> Result<()> {
     match v {
-        Validity::Valid => word(b"wrote"),
-        Validity::Refused(n, p) => refused(n, p),
+        Validity::Valid => word(out, b"wrote"),
+        Validity::Refused(n, p) => refused(out, n, p),
     }
 }
 
 // A whole buffer after a call, and the line's end.
-pub(crate) fn buffer(out: &[u8]) {
-    word(b" ");
-    bytes(out);
-    word(b"\n");
+pub(crate) fn buffer<W: Write>(out: &mut W, room: &[u8]) -> Result<()> {
+    word(out, b" ")?;
+    bytes(out, room)?;
+    word(out, b"\n")
 }

@@ -1,6 +1,5 @@
 // What stands in a case: strings, each a byte, its length, and then that many bytes; and a room filled with one.
-ghost use Rattle.std.specs.Prelude.{◌+◌, ◌<◌, ◌^◌};
-ghost use Rattle.io.specs.Counts.{IsPrefixLen};
+ghost use Rattle.std.specs.Prelude.{◌+◌, ◌<◌, ◌≤◌, ◌^◌, length};
 
 use fields::numbers::byte_at;
 use fields::put::put;
@@ -23,7 +22,7 @@ pub(crate) fn past_string(case: &[u8], k: usize) -> usize
 
 // Puts bytes at the start of a room and answers how many they are; none where they do not fit.
 pub(crate) fn put_first(scratch: &mut [u8], bytes: &[u8]) -> usize
-    ensures { IsPrefixLen result scratch.new }
+    ensures { result ≤ length scratch.new }
 {
     let n = bytes.len();
     if scratch.len() < n {

@@ -1,8 +1,0 @@
--- `call_lists::bytes` answers a count of the buffer's bytes: a read leaves it its length.
-use native.Mathlib.Omega.{arith}
-use borrow.Author.Rules.{rules}
-use lib.ListN.{length-take}
-use Rattle.call_lists.proofs.bytes.Goals as goal
-
-pub returns : goal.returns
-returns c = (omega arith, simp length-take (omega arith))

@@ -1,0 +1,50 @@
+// Bytes read into buffers. The error is the first that a read gives.
+ghost use Rattle.std.specs.Prelude.{◌≡◌, ◌≤◌, min, length, IfOk};
+
+use fields::numbers::le32;
+use std::io::{Read, Result};
+
+// The bytes of the buffer that most inputs are read into.
+pub const LARGE: usize = 65536;
+
+// Reads until the buffer is full or the input ends, and answers how many bytes it put at the buffer's start.
+pub fn read_full<R: Read>(input: &mut R, buffer: &mut [u8]) -> Result<usize>
+    ensures { IfOk result (λ n. n ≤ length buffer.new) }
+{
+    let mut done = 0;
+    while done < buffer.len() {
+        let n = input.read(&mut buffer[done..])?;
+        if n == 0 {
+            break;
+        }
+        done += n;
+    }
+    Ok(done)
+}
+
+// How many of so many bytes a buffer has room for.
+pub fn count(size: u32, buffer: &[u8]) -> usize
+    ensures { result ≡ min size (length buffer.now) }
+{
+    (size as usize).min(buffer.len())
+}
+
+// Reads so many bytes into the start of a buffer, as many as it has at most, and answers how many. Where the input has fewer, the
+// others stay as they were.
+pub fn bytes<R: Read>(input: &mut R, size: u32, buffer: &mut [u8]) -> Result<usize>
+    ensures { IfOk result (λ n. n ≤ length buffer.new) }
+{
+    let n = count(size, buffer);
+    read_full(input, &mut buffer[..n])?;
+    Ok(n)
+}
+
+// Reads a case, a length of four bytes, low byte first, and then its bytes, into the start of a buffer, and answers how many bytes it
+// has; 0 where the input ends.
+pub fn case<R: Read>(input: &mut R, buffer: &mut [u8]) -> Result<usize>
+    ensures { IfOk result (λ n. n ≤ length buffer.new) }
+{
+    let mut head = [0u8; 4];
+    read_full(input, &mut head)?;
+    bytes(input, le32(&head, 0), buffer)
+}
