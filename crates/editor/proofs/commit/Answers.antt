@@ -53,4 +53,4 @@ returns c =
     let m = planned-change (goal.at.returns c).Start in
     let n : e.s.place + e.s.taken - e.s.place ≡ e.s.taken = omega arith in
     change-made e.room.now e.len e.history.now e.used (planned e.plan e.bytes.now (take e.len e.room.now)) e.s
-    _ _ _ _ _ m (ap (λ (k : ℕ). take k (drop e.s.place e.room.now)) n) refl c.make.ensures r.record_entry-run.ensures.0 r.record_entry-run.ensures.1
+    _ _ _ _ _ m (ap (λ (k : ℕ). take k (drop e.s.place e.room.now)) n) refl c.make.ensures r.record_entry-run.ensures.history r.record_entry-run.ensures.left

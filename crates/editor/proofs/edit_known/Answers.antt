@@ -65,7 +65,7 @@ plan_of-plan-requires c =
     let s = c in
     let b = s in
     let p = passed (goal.at.plan_of-plan-requires c).In_default in
-    (preconditions-has-layout _ b.args.room.now b.args.len b.args.history.now b.args.used b.requires (λ n. (s.type_inv.room n).fits), (p.place, p.count))
+    (preconditions-has-layout _ b.args.room.now b.args.len b.args.history.now b.args.used b.requires (λ n. (s.slice_known-1.given n).fits), (p.place, p.count))
 
 pub slice_bounds-span-end : goal.slice_bounds-span-end
 slice_bounds-span-end c =

@@ -21,7 +21,7 @@ valid c = sym c.validity_of.ensures ∙ c.in_default.is
 inside : (c : In_default)
     → (88 + contact_count c.args.f.now * 39 ≤ length c.args.f.now)
     × (channel_place c.args.f.now 0 + channel_count c.args.f.now * 90 ≤ length c.args.f.now)
-inside c = records-inside _ _ (λ i. (c.type_inv.f i).fits) (valid c)
+inside c = records-inside _ _ (λ i. (c.slice_known-1.given i).fits) (valid c)
 
 pub returns-in-Refused : goal.returns-in-Refused
 unfolding legacy_validation validated_by

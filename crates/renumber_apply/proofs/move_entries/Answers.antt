@@ -19,7 +19,7 @@ room : (c : After-entry_count-count)
 room c =
     let l = c in
     let a = l.args in
-    entries_fit (shift_of a.s) a.d.now l.loop-i.d a.start a.n l.loop-i.i l.loop-i.p (λ i. (l.type_inv.d i).fits) (omega arith) l.loop-i.invariant.0.1 (omega arith) l.loop-i.invariant.1.1 c.entry_count-count.result c.entry_count-count.ensures.0
+    entries_fit (shift_of a.s) a.d.now l.loop-i.d a.start a.n l.loop-i.i l.loop-i.p (λ i. (l.slice_known-1.given i).fits) (omega arith) l.loop-i.invariant.0.1 (omega arith) l.loop-i.invariant.1.1 c.entry_count-count.result c.entry_count-count.ensures.0
 
 pub loop-i-init : goal.loop-i-init
 loop-i-init c =
@@ -52,7 +52,7 @@ loop-i-preserved c =
     let k = c in
     let l = k in
     let a = l.args in
-    let turned = entries-step (shift_of a.s) a.d.now l.loop-i.d a.start a.n l.loop-i.i l.loop-i.p (λ i. (l.type_inv.d i).fits) (omega arith) l.loop-i.invariant.0.1 (omega arith) l.loop-i.invariant.1.1 _ k.entry_count-count.result (omega arith) k.entry_count-count.ensures.0 c.move_run.ensures in
+    let turned = entries-step (shift_of a.s) a.d.now l.loop-i.d a.start a.n l.loop-i.i l.loop-i.p (λ i. (l.slice_known-1.given i).fits) (omega arith) l.loop-i.invariant.0.1 (omega arith) l.loop-i.invariant.1.1 _ k.entry_count-count.result (omega arith) k.entry_count-count.ensures.0 c.move_run.ensures in
     ((omega arith, (room (goal.at.loop-i-preserved c).After-entry_count-count).1), (omega arith, turned))
 
 pub returns : goal.returns

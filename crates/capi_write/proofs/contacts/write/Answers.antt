@@ -1,5 +1,7 @@
 -- A mode that is there is validated as the library does; a foreign one answers in its turn.
-use mathlib.Core.Path.{◌∙◌}
+use mathlib.Core.Path.{◌≡◌, ◌∙◌}
+use mathlib.Core.Bool.{true}
+use Rattle.contact.specs.Contact.{mode_ok}
 use mathlib.Core.Logic.{⊎_elim}
 use native.Mathlib.Omega.{arith}
 use Rattle.capi_write.proofs.ContactLaws.{dmr-known, m17-known, mode-foreign, contact-goes, contact-stops}
@@ -13,7 +15,7 @@ returns-then-mode-eq-DMR c =
     let w = c in
     let i = w in
     let m = i.args.values.mode in
-    let known = elim i.then-mode-eq-DMR.branch [ then-mode-eq-DMR-via-then-mode-eq-DMR w ↦ dmr-known m (omega arith) | then-mode-eq-DMR-via-else-mode-eq-DMR+then-mode-eq-M17 w ↦ m17-known m (omega arith) ] in
+    let known : mode_ok m ≡ true = elim i.then-mode-eq-DMR.branch [ then-mode-eq-DMR-via-then-mode-eq-DMR w ↦ dmr-known m (omega arith) | then-mode-eq-DMR-via-else-mode-eq-DMR+then-mode-eq-M17 w ↦ m17-known m (omega arith) ] in
     contact-goes _ _ _ _ _ _ _ _ known i.info_from-info.ensures w.write.ensures c.refusal_of.ensures
 
 pub returns : goal.returns
