@@ -6,8 +6,7 @@ ghost use Rattle.capi.specs.Calls.{Edited, Undone};
 use m17::edition_of;
 
 // Takes the last edit back, in both buffers, or refuses and leaves them as lent.
-#[unsafe(no_mangle)]
-pub extern "C" fn codeplug_undo(
+pub fn codeplug_undo(
     room: &mut [u8],
     len: usize,
     history: &mut [u8],
@@ -22,8 +21,7 @@ pub extern "C" fn codeplug_undo(
 }
 
 // Makes an edit in both buffers, or refuses it and leaves them as lent.
-#[unsafe(no_mangle)]
-pub extern "C" fn codeplug_edit(
+pub fn codeplug_edit(
     room: &mut [u8],
     len: usize,
     history: &mut [u8],

@@ -10,16 +10,14 @@ use capi_convert::files::ValidateAnswer;
 use m17::edition_of;
 
 // Whether a file is accepted by the legacy reading, with its counts; beside a refusal they are 0.
-#[unsafe(no_mangle)]
-pub extern "C" fn codeplug_validate_legacy(file: &[u8], edition: u32) -> ValidateAnswer
+pub fn codeplug_validate_legacy(file: &[u8], edition: u32) -> ValidateAnswer
     ensures { result ≡ validate_answer (legacy_validation (edition_of edition) file.now) }
 {
     capi_convert::files::validate_answer(legacy_validation::validate(file, edition_of(edition)))
 }
 
 // The same answer; an accepted file is migrated, a refused one stays as lent.
-#[unsafe(no_mangle)]
-pub extern "C" fn codeplug_migrate(file: &mut [u8], edition: u32) -> ValidateAnswer
+pub fn codeplug_migrate(file: &mut [u8], edition: u32) -> ValidateAnswer
     ensures { (result ≡ validate_answer (legacy_validation (edition_of edition) file.old))
         × (file.new ≡ migrated_by (legacy_file_rule (edition_of edition) file.old) file.old) }
 {

@@ -1,4 +1,6 @@
-// The C interface: the library's calls over structures of C and byte slices (bindings/c/include/codeplug.h).
+// The C interface: the library's calls over structures of C and byte slices (bindings/c/include/codeplug.h), each exported by capi_c.
+#![tactic(auto)]
+
 pub mod calls; // calls.rt: edit and undo
 pub mod history; // history.rt: how many entries a history holds
 pub mod legacy_files; // legacy_files.rt: validated by the legacy reading, and migrated

@@ -8,16 +8,14 @@ ghost use Rattle.capi_numbers.specs.Numbers.{encode_answer, decode_answer, tenth
 use m17::edition_of;
 
 // A callsign's address number; 0 beside a refusal.
-#[unsafe(no_mangle)]
-pub extern "C" fn codeplug_encode_callsign(text: &[u8], edition: u32) -> capi_numbers::EncodeAnswer
+pub fn codeplug_encode_callsign(text: &[u8], edition: u32) -> capi_numbers::EncodeAnswer
     ensures { result ≡ encode_answer (encoding (edition_of edition) text.now) }
 {
     capi_numbers::encode_answer(m17_encoder::encode(text, edition_of(edition)))
 }
 
 // An address number's text, into the first nine bytes of the buffer, and its length; broadcast has none.
-#[unsafe(no_mangle)]
-pub extern "C" fn codeplug_decode_address(
+pub fn codeplug_decode_address(
     address: u64,
     out: &mut [u8],
     edition: u32,
@@ -28,16 +26,14 @@ pub extern "C" fn codeplug_decode_address(
 }
 
 // The frequency of a tone, in tenths of a hertz; 0 past the table.
-#[unsafe(no_mangle)]
-pub extern "C" fn codeplug_tone_frequency(index: u8) -> u16
+pub fn codeplug_tone_frequency(index: u8) -> u16
     ensures { result ≡ tenths_of (frequency_of index) }
 {
     capi_numbers::tenths_of(tones::frequency_of(index))
 }
 
 // The index of a frequency; 255 where no tone has it.
-#[unsafe(no_mangle)]
-pub extern "C" fn codeplug_tone_index(tenths: u16) -> u8
+pub fn codeplug_tone_index(tenths: u16) -> u8
     ensures { result ≡ index_number (index_of tenths) }
 {
     capi_numbers::index_number(tones::index_of(tenths))

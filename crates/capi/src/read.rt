@@ -15,16 +15,14 @@ use capi_convert::files::{BankAnswer, BankEntryAnswer, HeaderAnswer, ValidateAns
 use m17::edition_of;
 
 // Whether a file is accepted, with its counts; beside a refusal they are 0.
-#[unsafe(no_mangle)]
-pub extern "C" fn codeplug_validate(file: &[u8], edition: u32) -> ValidateAnswer
+pub fn codeplug_validate(file: &[u8], edition: u32) -> ValidateAnswer
     ensures { result ≡ validate_answer (validation (edition_of edition) file.now) }
 {
     capi_convert::files::validate_answer(validation::validate(file, edition_of(edition)))
 }
 
 // The header's numbers; author and description, 32 bytes each, go into the first 64 bytes of the buffer.
-#[unsafe(no_mangle)]
-pub extern "C" fn codeplug_header(file: &[u8], texts: &mut [u8], edition: u32) -> HeaderAnswer
+pub fn codeplug_header(file: &[u8], texts: &mut [u8], edition: u32) -> HeaderAnswer
     ensures { HeaderOut (header_read (edition_of edition) file.now) texts.old result texts.new }
 {
     capi_convert::files::header_out(
@@ -35,13 +33,7 @@ pub extern "C" fn codeplug_header(file: &[u8], texts: &mut [u8], edition: u32) -
 }
 
 // Contact n of a file; its name's 32 bytes go into the beginning of the buffer.
-#[unsafe(no_mangle)]
-pub extern "C" fn codeplug_contact(
-    file: &[u8],
-    n: usize,
-    name: &mut [u8],
-    edition: u32,
-) -> ContactAnswer
+pub fn codeplug_contact(file: &[u8], n: usize, name: &mut [u8], edition: u32) -> ContactAnswer
     ensures { ContactOut (contact_read (edition_of edition) file.now n) name.old result name.new }
 {
     let v = codeplug::read::contact_validity(file, n, edition_of(edition));
@@ -49,8 +41,7 @@ pub extern "C" fn codeplug_contact(
 }
 
 // The same of a file that was validated before, without validating it again.
-#[unsafe(no_mangle)]
-pub extern "C" fn codeplug_contact_prevalidated(
+pub fn codeplug_contact_prevalidated(
     file: &[u8],
     n: usize,
     name: &mut [u8],
@@ -63,13 +54,7 @@ pub extern "C" fn codeplug_contact_prevalidated(
 }
 
 // Channel n of a file; name and description, 32 bytes each, go into the first 64 bytes of the buffer.
-#[unsafe(no_mangle)]
-pub extern "C" fn codeplug_channel(
-    file: &[u8],
-    n: usize,
-    texts: &mut [u8],
-    edition: u32,
-) -> ChannelAnswer
+pub fn codeplug_channel(file: &[u8], n: usize, texts: &mut [u8], edition: u32) -> ChannelAnswer
     ensures { ChannelOut (channel_read (edition_of edition) file.now n) texts.old result texts.new }
 {
     let v = codeplug::read::channel_validity(file, n, edition_of(edition));
@@ -77,12 +62,7 @@ pub extern "C" fn codeplug_channel(
 }
 
 // The same of a file that was validated before, without validating it again.
-#[unsafe(no_mangle)]
-pub extern "C" fn codeplug_channel_prevalidated(
-    file: &[u8],
-    n: usize,
-    texts: &mut [u8],
-) -> ChannelAnswer
+pub fn codeplug_channel_prevalidated(file: &[u8], n: usize, texts: &mut [u8]) -> ChannelAnswer
     ensures { ChannelOut (channel_prevalidated file.now n) texts.old result texts.new }
 {
     let v = prevalidated::channel_validity(file, n);
@@ -90,8 +70,7 @@ pub extern "C" fn codeplug_channel_prevalidated(
 }
 
 // Bank n's entry count; its name's 32 bytes go into the beginning of the buffer.
-#[unsafe(no_mangle)]
-pub extern "C" fn codeplug_bank(file: &[u8], n: usize, name: &mut [u8], edition: u32) -> BankAnswer
+pub fn codeplug_bank(file: &[u8], n: usize, name: &mut [u8], edition: u32) -> BankAnswer
     ensures { BankOut (bank_read (edition_of edition) file.now n) name.old result name.new }
 {
     let v = codeplug::read::bank_validity(file, n, edition_of(edition));
@@ -99,8 +78,7 @@ pub extern "C" fn codeplug_bank(file: &[u8], n: usize, name: &mut [u8], edition:
 }
 
 // The same of a file that was validated before, without validating it again.
-#[unsafe(no_mangle)]
-pub extern "C" fn codeplug_bank_prevalidated(file: &[u8], n: usize, name: &mut [u8]) -> BankAnswer
+pub fn codeplug_bank_prevalidated(file: &[u8], n: usize, name: &mut [u8]) -> BankAnswer
     ensures { BankOut (bank_prevalidated file.now n) name.old result name.new }
 {
     let v = prevalidated::bank_validity(file, n);
@@ -108,13 +86,7 @@ pub extern "C" fn codeplug_bank_prevalidated(file: &[u8], n: usize, name: &mut [
 }
 
 // Entry i of a bank: its channel's index, and the next place; 0 both beside a refusal.
-#[unsafe(no_mangle)]
-pub extern "C" fn codeplug_bank_entry(
-    file: &[u8],
-    bank: usize,
-    i: usize,
-    edition: u32,
-) -> BankEntryAnswer
+pub fn codeplug_bank_entry(file: &[u8], bank: usize, i: usize, edition: u32) -> BankEntryAnswer
     ensures { result ≡ entry_to_c (entry_read (edition_of edition) file.now bank i) }
 {
     capi_convert::files::bank_entry_answer(codeplug::bank_entries::entry(
@@ -126,12 +98,7 @@ pub extern "C" fn codeplug_bank_entry(
 }
 
 // The same of a file that was validated before, without validating it again.
-#[unsafe(no_mangle)]
-pub extern "C" fn codeplug_bank_entry_prevalidated(
-    file: &[u8],
-    bank: usize,
-    i: usize,
-) -> BankEntryAnswer
+pub fn codeplug_bank_entry_prevalidated(file: &[u8], bank: usize, i: usize) -> BankEntryAnswer
     ensures { result ≡ entry_to_c (entry_step (entries_prevalidated file.now bank) i) }
 {
     capi_convert::files::bank_entry_answer(entries::walked(prevalidated::entries(file, bank), i))

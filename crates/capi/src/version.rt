@@ -9,8 +9,7 @@ pub const MINOR: u32 = 0;
 pub const PATCH: u32 = 0;
 
 // One byte for each, the patch lowest.
-#[unsafe(no_mangle)]
-pub extern "C" fn codeplug_version() -> u32
+pub fn codeplug_version() -> u32
     ensures { result ≡ version_number }
 {
     MAJOR * 65536 + MINOR * 256 + PATCH

@@ -7,8 +7,7 @@ ghost use Rattle.capi_write.specs.Texts.{TextFromC, EmptyToC};
 use m17::edition_of;
 
 // Writes a contact's 39 bytes.
-#[unsafe(no_mangle)]
-pub extern "C" fn codeplug_write_contact(
+pub fn codeplug_write_contact(
     out: &mut [u8],
     name: &[u8],
     values: capi_numbers::ContactValues,
@@ -20,8 +19,7 @@ pub extern "C" fn codeplug_write_contact(
 }
 
 // Writes a channel's 90 bytes.
-#[unsafe(no_mangle)]
-pub extern "C" fn codeplug_write_channel(
+pub fn codeplug_write_channel(
     out: &mut [u8],
     name: &[u8],
     description: &[u8],
@@ -34,16 +32,14 @@ pub extern "C" fn codeplug_write_channel(
 }
 
 // Writes a text field's 32 bytes.
-#[unsafe(no_mangle)]
-pub extern "C" fn codeplug_write_text(out: &mut [u8], text: &[u8]) -> capi_numbers::Refusal
+pub fn codeplug_write_text(out: &mut [u8], text: &[u8]) -> capi_numbers::Refusal
     ensures { TextFromC out.old text.now result out.new }
 {
     capi_write::texts::write(out, text)
 }
 
 // Writes the empty codeplug's 88 bytes.
-#[unsafe(no_mangle)]
-pub extern "C" fn codeplug_write_empty(out: &mut [u8]) -> capi_numbers::Refusal
+pub fn codeplug_write_empty(out: &mut [u8]) -> capi_numbers::Refusal
     ensures { EmptyToC out.old result out.new }
 {
     capi_write::texts::write_empty(out)
