@@ -45,7 +45,7 @@ def snake(word):
     if word in OLDER:
         return OLDER[word]
     word = word.replace("′", "'")
-    return re.sub(r"([a-z0-9])([A-Z])", lambda m: m.group(1) + "_" + m.group(2).lower(), word)
+    return re.sub(r"(?<!^)([A-Z])", r"_\1", word).lower()
 
 
 def words():

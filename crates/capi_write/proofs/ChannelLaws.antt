@@ -14,7 +14,7 @@ use Rattle.channel_writer.specs.Writing.{channel_write_rule, channel_written}
 use Rattle.channel.specs.declared.Common.{Common}
 use Rattle.channel.specs.declared.Info.{Info}
 use Rattle.capi_numbers.specs.Numbers.{refusal_of}
-use Rattle.capi_write.specs.Channels.{info_from, channel_from_cRule, channel_from_cWritten, ChannelFromC}
+use Rattle.capi_write.specs.Channels.{info_from, channel_from_c_rule, channel_from_c_written, ChannelFromC}
 use Rattle.capi_numbers.specs.declared.Refusal.{Refusal}
 use Rattle.capi_numbers.specs.declared.ChannelInfo.{ChannelInfo}
 
@@ -40,19 +40,19 @@ again false n p v = refl
 
 module _ (out name description : List ℕ) (common : Common) (info : ChannelInfo) where
   known-mode : info.mode ≤ 2
-      → channel_from_cRule (length out) name description common info ≡ channel_write_rule (length out) name description common (info_from info)
-  unfolding channel_from_cRule channel_write_rule unless ◌then◌
+      → channel_from_c_rule (length out) name description common info ≡ channel_write_rule (length out) name description common (info_from info)
+  unfolding channel_from_c_rule channel_write_rule unless ◌then◌
   known-mode h = rw (mode-known info.mode h) (again (leb 90 (length out)) 25 0 _)
 
-  foreign-mode : 2 < info.mode → channel_from_cRule (length out) name description common info ≡ unless (leb 90 (length out)) 25 0 then Refused 6 0
-  unfolding channel_from_cRule unless ◌then◌
+  foreign-mode : 2 < info.mode → channel_from_c_rule (length out) name description common info ≡ unless (leb 90 (length out)) 25 0 then Refused 6 0
+  unfolding channel_from_c_rule unless ◌then◌
   foreign-mode h = rw (mode-foreign info.mode h)
 
   -- the library's answer is the one asked for
   pub channel-goes : (i : Info) (r : Validity) (q : Refusal) (left : List ℕ) → info.mode ≤ 2 → i ≡ info_from info
       → (r ≡ channel_write_rule (length out) name description common i) × (left ≡ channel_written out name description common i)
       → q ≡ refusal_of r → ChannelFromC out name description common info q left
-  unfolding channel_written channel_from_cWritten
+  unfolding channel_written channel_from_c_written
   channel-goes i r q left h ie w e =
       let known = known-mode h in
       (rw (e, w.0, known, ie), rw (known, ← ie) w.1)
@@ -60,7 +60,7 @@ module _ (out name description : List ℕ) (common : Common) (info : ChannelInfo
   -- the answer to a foreign mode, and the buffer as lent
   pub channel-stops : (r : Validity) (q : Refusal) → 2 < info.mode → r ≡ unless (leb 90 (length out)) 25 0 then Refused 6 0
       → q ≡ refusal_of r → ChannelFromC out name description common info q out
-  unfolding channel_from_cWritten
+  unfolding channel_from_c_written
   channel-stops r q h e f =
       let foreign = foreign-mode h in
       (rw (f, e, foreign), rw foreign (sym (stopped (unless (leb 90 (length out)) 25 0) 6 0 out _)))

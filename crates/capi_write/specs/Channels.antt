@@ -36,19 +36,19 @@ info_from v =
 
 -- ---- a channel: the mode is validated at 0, after 25
 
-unfoldable pub channel_from_cRule : ℕ → List ℕ → List ℕ → Common → ChannelInfo → Validity
-channel_from_cRule size name description common info =
+unfoldable pub channel_from_c_rule : ℕ → List ℕ → List ℕ → Common → ChannelInfo → Validity
+channel_from_c_rule size name description common info =
     unless (leb 90 size) 25 0
     then unless (mode_ok info.mode) 6 0
     then channel_write_rule size name description common (info_from info)
 
-unfoldable pub channel_from_cWritten : List ℕ → List ℕ → List ℕ → Common → ChannelInfo → List ℕ
-channel_from_cWritten out name description common info =
+unfoldable pub channel_from_c_written : List ℕ → List ℕ → List ℕ → Common → ChannelInfo → List ℕ
+channel_from_c_written out name description common info =
     written
-    (channel_from_cRule (length out) name description common info)
+    (channel_from_c_rule (length out) name description common info)
     out
     (channel_bytes name description common (info_from info))
 
 abbrev pub ChannelFromC : List ℕ → List ℕ → List ℕ → Common → ChannelInfo → Refusal → List ℕ → Type 0
 ChannelFromC out name description common info r after =
-    (r ≡ refusal_of (channel_from_cRule (length out) name description common info)) × (after ≡ channel_from_cWritten out name description common info)
+    (r ≡ refusal_of (channel_from_c_rule (length out) name description common info)) × (after ≡ channel_from_c_written out name description common info)

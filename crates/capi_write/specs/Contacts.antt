@@ -21,17 +21,17 @@ info_from v =
 
 -- ---- a contact: what the library's writer refuses, the mode validated in its turn, at 32, after 25 and the name
 
-unfoldable pub contact_from_cRule : Edition → ℕ → List ℕ → ContactValues → Validity
-contact_from_cRule e size name v =
+unfoldable pub contact_from_c_rule : Edition → ℕ → List ℕ → ContactValues → Validity
+contact_from_c_rule e size name v =
     unless (leb 39 size) 25 0
     then unless (given_ok name) 5 0
     then unless (mode_ok v.mode) 6 32
     then contact_write_rule e size name (info_from v)
 
 -- the later contents of the buffer
-unfoldable pub contact_from_cWritten : Edition → List ℕ → List ℕ → ContactValues → List ℕ
-contact_from_cWritten e out name v = written (contact_from_cRule e (length out) name v) out (contact_bytes name (info_from v))
+unfoldable pub contact_from_c_written : Edition → List ℕ → List ℕ → ContactValues → List ℕ
+contact_from_c_written e out name v = written (contact_from_c_rule e (length out) name v) out (contact_bytes name (info_from v))
 
 -- a refusal, and the buffer after it
 abbrev pub ContactFromC : Edition → List ℕ → List ℕ → ContactValues → Refusal → List ℕ → Type 0
-ContactFromC e out name v r after = (r ≡ refusal_of (contact_from_cRule e (length out) name v)) × (after ≡ contact_from_cWritten e out name v)
+ContactFromC e out name v r after = (r ≡ refusal_of (contact_from_c_rule e (length out) name v)) × (after ≡ contact_from_c_written e out name v)

@@ -55,6 +55,7 @@ pub fn slot_ok(x: u8) -> bool
 }
 
 // Operation 1 to 3 with encryption 0 to 2.
+#[tactic(auto, unfolding(crate::specs::Values::operation_ok, crate::specs::Values::encryption_ok))]
 pub fn operation_ok(operation: u8, encryption: u8) -> bool
     ensures { result ≡ operation_ok operation && encryption_ok encryption }
 {

@@ -32,6 +32,7 @@ pub enum KindRead {
 }
 
 // The kind of a number, 1 to 12.
+#[tactic(auto, unfolding(crate::specs::Kinds::kind_of))]
 pub fn kind_of(n: usize) -> KindRead
     ensures { result ≡ kind_of n }
 {

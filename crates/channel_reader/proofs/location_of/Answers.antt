@@ -13,8 +13,8 @@ returns c =
     let y = c.signed_of-2 in
     let x = d.signed_of in
     rw (
-      to_z-of_z w8 y.result (record { sfits = y.type-inv }),
-      to_z-of_z w8 x.result (record { sfits = x.type-inv }),
+      to_z-of_z w8 y.result (record { sfits = y.type_inv }),
+      to_z-of_z w8 x.result (record { sfits = x.type_inv }),
       c.le16-3.ensures,
       c.le16-2.ensures,
       c.signed_of-2.ensures,

@@ -13,8 +13,8 @@ unfolding location_bytes little_bytes
 returns c =
     let e = c in
     let f = e in
-    let l = f.type_inv.l.1.1.1.0.1 in
-    let m = e.type_inv.l.1.1.1.1.0.1 in
+    let l = c.struct_told-1.given.1.1.1.0.1 in
+    let m = c.struct_told-2-1.given.1.1.1.1.0.1 in
     let r1 = run-start _ _ 77 _ (long-byte _) f.put_byte.ensures (omega (arith, f.requires)) in
     let r2 = run-then r1 _ _ (long-little 2 _) e.put_le16.ensures in
     let r3 = run-then r2 _ _ (long-byte _) e.put_byte-2.ensures in

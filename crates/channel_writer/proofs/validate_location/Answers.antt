@@ -8,7 +8,7 @@ pub returns : goal.returns
 unfolding location_write_rule
 returns c =
     let e = c in
-    let f = e.type_inv.l.1.1.1.0.1 in
+    let f = c.struct_told-1.given.1.1.1.0.1 in
     rw (
       c.first-2.ensures,
       c.first.ensures,

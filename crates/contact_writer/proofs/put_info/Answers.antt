@@ -26,7 +26,7 @@ returns-in-M17 c =
     let i = p in
     let e = i in
     rw i.in-M17.is
-    (put-m17 e.args.dst.now p.put_byte.new.0 _ _ _ e.requires.0 p.put_byte.ensures b.put_be48.ensures
+    (put-m17 e.args.dst.now p.put_byte.new.dst _ _ _ e.requires.0 p.put_byte.ensures b.put_be48.ensures
     b.address_number.ensures)
 
 pub returns-in-Dmr : goal.returns-in-Dmr
@@ -37,5 +37,5 @@ returns-in-Dmr c =
     let i = p in
     let e = i in
     rw i.in-Dmr.is
-    (put-dmr e.args.dst.now p.put_byte-in-Dmr.new.0 l.put_le32.new.0 _ _ _ e.requires.0 e.requires.1.0 p.put_byte-in-Dmr.ensures
+    (put-dmr e.args.dst.now p.put_byte-in-Dmr.new.dst l.put_le32.new.dst _ _ _ e.requires.0 e.requires.1.0 p.put_byte-in-Dmr.ensures
     l.put_le32.ensures b.put_byte-in-Dmr-2.ensures (b.number_flag_byte.ensures ∙ rw b.settings_number_flag.ensures))

@@ -22,93 +22,45 @@ returns-in-SetHeader c =
     let p = c.requires in
     makes-at _ _ _ _ _ _ refl k p (preamble-over _ p.0.bytes _ (ready_at _ _ _ _ _ refl k p))
 
-pub enum_told-1 : goal.enum_told-1
-enum_told-1 c =
-    c.in-InsertContact.keys1
-
 pub insert_contact-requires : goal.insert_contact-requires
 insert_contact-requires c =
     ready_at _ _ _ _ _ refl c.in-InsertContact.is c.requires
-
-pub enum_told-in-RemoveContact : goal.enum_told-in-RemoveContact
-enum_told-in-RemoveContact c =
-    c.in-InsertContact.keys2
 
 pub remove_contact-requires : goal.remove_contact-requires
 remove_contact-requires c =
     ready_at _ _ _ _ _ refl c.in-RemoveContact.is c.requires
 
-pub enum_told-in-ReplaceContact : goal.enum_told-in-ReplaceContact
-enum_told-in-ReplaceContact c =
-    c.in-InsertContact.keys3
-
-pub enum_told-in-InsertChannel : goal.enum_told-in-InsertChannel
-enum_told-in-InsertChannel c =
-    c.in-InsertContact.keys4
-
 pub insert_channel-requires : goal.insert_channel-requires
 insert_channel-requires c =
     ready_at _ _ _ _ _ refl c.in-InsertChannel.is c.requires
-
-pub enum_told-in-RemoveChannel : goal.enum_told-in-RemoveChannel
-enum_told-in-RemoveChannel c =
-    c.in-InsertContact.keys5
 
 pub remove_channel-requires : goal.remove_channel-requires
 remove_channel-requires c =
     ready_at _ _ _ _ _ refl c.in-RemoveChannel.is c.requires
 
-pub enum_told-in-ReplaceChannel : goal.enum_told-in-ReplaceChannel
-enum_told-in-ReplaceChannel c =
-    c.in-InsertContact.keys6
-
 pub replace_channel-requires : goal.replace_channel-requires
 replace_channel-requires c =
     ready_at _ _ _ _ _ refl c.in-ReplaceChannel.is c.requires
-
-pub enum_told-in-InsertBank : goal.enum_told-in-InsertBank
-enum_told-in-InsertBank c =
-    c.in-InsertContact.keys7
 
 pub insert_bank-requires : goal.insert_bank-requires
 insert_bank-requires c =
     ready_at _ _ _ _ _ refl c.in-InsertBank.is c.requires
 
-pub enum_told-in-RemoveBank : goal.enum_told-in-RemoveBank
-enum_told-in-RemoveBank c =
-    c.in-InsertContact.keys8
-
 pub remove_bank-requires : goal.remove_bank-requires
 remove_bank-requires c =
     ready_at _ _ _ _ _ refl c.in-RemoveBank.is c.requires
-
-pub enum_told-in-RenameBank : goal.enum_told-in-RenameBank
-enum_told-in-RenameBank c =
-    c.in-InsertContact.keys9
 
 pub rename_bank-requires : goal.rename_bank-requires
 rename_bank-requires c =
     ready_at _ _ _ _ _ refl c.in-RenameBank.is c.requires
 
-pub enum_told-in-InsertEntry : goal.enum_told-in-InsertEntry
-enum_told-in-InsertEntry c =
-    c.in-InsertContact.keys10
-
 pub insert_entry-requires : goal.insert_entry-requires
 insert_entry-requires c =
     ready-as _ _ _ _ _ c.in-InsertEntry.is c.requires
 
-pub enum_told-in-RemoveEntry : goal.enum_told-in-RemoveEntry
-enum_told-in-RemoveEntry c =
-    c.in-InsertContact.keys11
-
 pub remove_entry-requires : goal.remove_entry-requires
 remove_entry-requires c =
     ready-as _ _ _ _ _ c.in-RemoveEntry.is c.requires
-
-pub enum_told-in-SetHeader : goal.enum_told-in-SetHeader
-enum_told-in-SetHeader c =
-    c.in-InsertContact.keys12
 
 pub returns-in-InsertContact : goal.returns-in-InsertContact
 returns-in-InsertContact c =

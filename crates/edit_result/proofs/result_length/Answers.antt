@@ -30,32 +30,9 @@ overflow_sub-result-in-RemoveBank c =
     rw (c.entry_count.ensures.0, c.bank_place.ensures.0)
     (bank-fits _ _ e.requires.0 (remove-bank-place _ _ _ _ e.requires.1.1 t.in-RemoveBank.is))
 
-pub returns-in_default : goal.returns-in_default
-returns-in_default c =
-    let a = c.args in
-    let n = length a.f.now in
-    rw c.growth.ensures.0
-    (alike (λ k. n + growth k) (λ k. result_length k a.i a.f.now) a.k (0 ∷ 2 ∷ 3 ∷ 5 ∷ 6 ∷ 8 ∷ 9 ∷ 11 ∷ []) (simp add-zero) c.in-RemoveContact.keys5)
-
-pub enum_told-1 : goal.enum_told-1
-enum_told-1 c =
-    c.in-RemoveContact.keys1
-
 pub overflow_sub-result : goal.overflow_sub-result
 overflow_sub-result c =
     omega (arith, c.requires.0.header)
-
-pub enum_told-in-RemoveChannel : goal.enum_told-in-RemoveChannel
-enum_told-in-RemoveChannel c =
-    c.in-RemoveContact.keys2
-
-pub enum_told-in-RemoveBank : goal.enum_told-in-RemoveBank
-enum_told-in-RemoveBank c =
-    c.in-RemoveContact.keys3
-
-pub enum_told-in-RemoveEntry : goal.enum_told-in-RemoveEntry
-enum_told-in-RemoveEntry c =
-    c.in-RemoveContact.keys4
 
 pub overflow_sub-result-in-RemoveEntry : goal.overflow_sub-result-in-RemoveEntry
 overflow_sub-result-in-RemoveEntry c =

@@ -11,19 +11,19 @@ use Rattle.editor.proofs.edit_known.Goals.{After-plan_of-plan, In_default}
 
 passed : (c : In_default)
     → (let e = c.args in
-    Passes e.edition e.k e.i e.j e.bytes.now (length e.room-1.now) (take e.len e.room-1.now))
+    Passes e.edition e.k e.i e.j e.bytes.now (length e.room.now) (take e.len e.room.now))
 passed c =
     let e = c.args in
-    passes _ e.k e.i e.j e.bytes.now (length e.room-1.now) (take e.len e.room-1.now) _ c.refusal.ensures c.in_default.is
+    passes _ e.k e.i e.j e.bytes.now (length e.room.now) (take e.len e.room.now) _ c.refusal.ensures c.in_default.is
 
 plan : (c : After-plan_of-plan)
     → (let e = c.args in
-    Planned e.k e.i e.j e.bytes.now (length e.room-1.now) (take e.len e.room-1.now) c.plan_of-plan.result)
+    Planned e.k e.i e.j e.bytes.now (length e.room.now) (take e.len e.room.now) c.plan_of-plan.result)
 plan c =
     let t = c in
     let b = t in
     let e = b.args in
-    plans _ e.k e.i e.j e.bytes.now (length e.room-1.now) (take e.len e.room-1.now) _ (passed t) (λ n. (b.type_inv.bytes n).fits)
+    plans _ e.k e.i e.j e.bytes.now (length e.room.now) (take e.len e.room.now) _ (passed (goal.at.After-plan_of-plan c).In_default) (λ n. (b.type_inv.bytes n).fits)
     c.plan_of-plan.ensures
 
 pub slice_bounds-refusal-end : goal.slice_bounds-refusal-end
@@ -64,8 +64,8 @@ pub plan_of-plan-requires : goal.plan_of-plan-requires
 plan_of-plan-requires c =
     let s = c in
     let b = s in
-    let p = passed c in
-    (preconditions-has-layout _ b.args.room.now b.args.len b.args.history.now b.args.used b.requires (λ n. (s.type_inv.room n).fits), (p.place, p.count))
+    let p = passed (goal.at.plan_of-plan-requires c).In_default in
+    (preconditions-has-layout _ b.args.room.now b.args.len b.args.history.now b.args.used b.requires (λ n. (s.slice_known-1.given n).fits), (p.place, p.count))
 
 pub slice_bounds-span-end : goal.slice_bounds-span-end
 slice_bounds-span-end c =
@@ -82,14 +82,14 @@ pub span-s-requires : goal.span-s-requires
 span-s-requires c =
     let b = c in
     let l = preconditions-short _ b.args.room.now b.args.len b.args.history.now b.args.used b.requires in
-    ((plan c).fits, omega arith)
+    ((plan (goal.at.span-s-requires c).After-plan_of-plan).fits, omega arith)
 
 pub entry_size-requires : goal.entry_size-requires
 entry_size-requires c =
     let x = c in
     let b = x in
     let e = b.args in
-    (changes e.room.now e.len e.history.now e.used (planned x.plan_of-plan.result e.bytes.now (take e.len e.room.now)) _ _ b.requires (plan x).small c.span-s.ensures
+    (changes e.room.now e.len e.history.now e.used (planned x.plan_of-plan.result e.bytes.now (take e.len e.room.now)) _ _ b.requires (plan (goal.at.entry_size-requires c).After-plan_of-plan).small c.span-s.ensures
     ).sound
 
 pub returns-then-history-entry_size : goal.returns-then-history-entry_size
@@ -100,7 +100,7 @@ returns-then-history-entry_size c =
     let e = t.args in
     let n = c.entry_size.ensures in
     known-full _ e.k e.i e.j e.bytes.now e.room.now e.len e.history.now e.used _ t.refusal.ensures t.in_default.is
-    _ (plan x).is _ s.span-s.ensures (omega arith)
+    _ (plan (goal.at.returns-then-history-entry_size c).After-plan_of-plan).is _ s.span-s.ensures (omega arith)
 
 pub commit-requires : goal.commit-requires
 commit-requires c =
@@ -108,7 +108,7 @@ commit-requires c =
     let s = z in
     let x = s in
     let b = x in
-    let p = plan x in
+    let p = plan (goal.at.commit-requires c).After-plan_of-plan in
     let n = z.entry_size.ensures in
     (((_, b.requires), p.fits), ((p.roomy, p.small), (s.span-s.ensures, omega arith)))
 
@@ -123,4 +123,4 @@ returns c =
     let n = z.entry_size.ensures in
     m.commit.ensures
     ∙ known-made _ e.k e.i e.j e.bytes.now e.room.now e.len e.history.now e.used _ t.refusal.ensures t.in_default.is
-    _ (plan x).is _ s.span-s.ensures (omega arith)
+    _ (plan (goal.at.returns c).After-plan_of-plan).is _ s.span-s.ensures (omega arith)

@@ -13,18 +13,15 @@ use lib.ListN.{length}
 use native.Mathlib.Omega.{arith}
 use borrow.Author.Rules.{rules}
 use Rattle.migration.proofs.migrate.Goals as goal
-use Rattle.migration.proofs.migrate.Goals.{After-slice_known-1, In_default}
+use Rattle.migration.proofs.migrate.Goals.{In_default}
 
 valid : (c : In_default) → legacy_file_rule c.args.edition c.args.f.now ≡ Valid
 valid c = sym c.validity_of.ensures ∙ c.in_default.is
 
-all-bytes : (c : After-slice_known-1) → AllBytes c.args.f.now
-all-bytes c i = (c.slice_known-1.given i).fits
-
 inside : (c : In_default)
     → (88 + contact_count c.args.f.now * 39 ≤ length c.args.f.now)
     × (channel_place c.args.f.now 0 + channel_count c.args.f.now * 90 ≤ length c.args.f.now)
-inside c = records-inside _ _ (all-bytes (goal.at.In_default c).After-slice_known-1) (valid c)
+inside c = records-inside _ _ (λ i. (c.slice_known-1.given i).fits) (valid c)
 
 pub returns-in-Refused : goal.returns-in-Refused
 unfolding legacy_validation validated_by
@@ -35,14 +32,14 @@ returns-in-Refused c =
 pub migrate_contacts-requires : goal.migrate_contacts-requires
 migrate_contacts-requires c =
     let k = c in
-    omega (arith, inside k, k.contact_count-contacts.ensures)
+    omega (arith, inside (goal.at.migrate_contacts-requires c).In_default, k.contact_count-contacts.ensures)
 
 pub migrate_channels-requires : goal.migrate_channels-requires
 migrate_channels-requires c =
     let p = c in
     let n = p in
     let k = n in
-    omega (arith, inside k, p.channel_place-start.ensures, n.channel_count-channels.ensures)
+    omega (arith, inside (goal.at.migrate_channels-requires c).In_default, p.channel_place-start.ensures, n.channel_count-channels.ensures)
 
 pub returns : goal.returns
 unfolding legacy_validation validated_by
@@ -55,4 +52,4 @@ returns c =
     let o = k in
     let e = o in
     let m = migrated-in-two _ _ _ _ _ _ k.contact_count-contacts.ensures.0 t.migrate_contacts.ensures p.channel_place-start.ensures.0 n.channel_count-channels.ensures.0 s.migrate_channels.ensures in
-    (rw (o.counts_of.ensures, valid (goal.at.returns e).In_default), left-migrated _ _ _ (valid (goal.at.returns e).In_default) m)
+    (rw (o.counts_of-counts.ensures, valid (goal.at.returns c).In_default), left-migrated _ _ _ (valid (goal.at.returns c).In_default) m)

@@ -12,7 +12,7 @@ use Rattle.plan_apply.proofs.drop_bank.Goals.{After-move_offsets, After-splice}
 -- the buffer once the offsets have moved
 moved : (c : After-move_offsets)
     → (let e = c.args in
-    TableReady e.t e.d-1.now e.len c.move_offsets.new.0 e.b.at e.b.size e.r.now)
+    TableReady e.t e.d.now e.len c.move_offsets.new.d e.b.at e.b.size e.r.now)
 moved c =
     let s = c in
     drop-moved s.args.t s.args.b s.args.c s.args.r.now s.args.d.now s.args.len _ s.requires c.move_offsets.ensures
@@ -20,8 +20,8 @@ moved c =
 -- and once the bank has gone
 gone : (c : After-splice)
     → (let e = c.args in
-    Ready e.c e.r.now e.d-1.now e.len c.splice.new.0 (e.len - e.b.size)
-    (planned (DropBank e.t e.b e.c) e.r.now (take e.len e.d-1.now)))
+    Ready e.c e.r.now e.d.now e.len c.splice.new.d (e.len - e.b.size)
+    (planned (DropBank e.t e.b e.c) e.r.now (take e.len e.d.now)))
 gone c =
     let s = c in
     drop-ready s.args.t s.args.b s.args.c s.args.r.now s.args.d.now s.args.len _ _ s.requires

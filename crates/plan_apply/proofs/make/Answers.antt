@@ -17,7 +17,7 @@ pub make_channels-requires : goal.make_channels-requires
 make_channels-requires c =
     let s = c in
     channels-has-room s.args.p s.args.r.now s.args.len s.args.d.now s.requires _ _ c.in-Channels.is
-    (λ i. (c.type_inv.d i).fits)
+    (λ i. (c.slice_known-1.given i).fits)
 
 pub make_entries-requires : goal.make_entries-requires
 make_entries-requires c =

@@ -12,7 +12,7 @@ use Rattle.plan_apply.proofs.make_bank.Goals.{After-move_offsets, After-splice}
 -- the buffer once the offsets have moved
 moved : (c : After-move_offsets)
     → (let e = c.args in
-    TableReady e.t e.d-1.now e.len c.move_offsets.new.0 e.at 0 c.empty_bank-bank.result)
+    TableReady e.t e.d.now e.len c.move_offsets.new.d e.at 0 c.empty_bank-bank.result)
 moved c =
     let s = c in
     bank-moved s.args.t s.args.at s.args.offset s.args.c s.args.r.now s.args.d.now s.args.len _ _ s.requires
@@ -21,8 +21,8 @@ moved c =
 -- and once the bank is put in
 banked : (c : After-splice)
     → (let e = c.args in
-    Ready e.c c.bytes32-bytes.result e.d-1.now e.len c.splice.new.0 (e.len + 34)
-    (planned (AddBank e.t e.at e.offset e.c) e.r.now (take e.len e.d-1.now)))
+    Ready e.c c.bytes32-bytes.result e.d.now e.len c.splice.new.d (e.len + 34)
+    (planned (AddBank e.t e.at e.offset e.c) e.r.now (take e.len e.d.now)))
 banked c =
     let b = c in
     let s = b in

@@ -11,7 +11,7 @@ use Rattle.plan_apply.proofs.make_channels.Goals.{After-move_entries}
 -- the buffer once the indexes have moved
 moved : (c : After-move_entries)
     → (let e = c.args in
-    LentReady (Channels e.s e.c) e.c e.r.now e.d-1.now e.len c.move_entries.new.0)
+    LentReady (Channels e.s e.c) e.c e.r.now e.d.now e.len c.move_entries.new.d)
 moved c =
     let s = c in
     channels-ready s.args.s s.args.c s.args.r.now s.args.d.now s.args.len _ _ _ s.requires

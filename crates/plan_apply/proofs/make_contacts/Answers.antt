@@ -9,7 +9,7 @@ use Rattle.plan_apply.proofs.make_contacts.Goals.{After-move_contacts}
 -- the buffer once the indexes have moved
 moved : (c : After-move_contacts)
     → (let e = c.args in
-    LentReady (Contacts e.s e.c) e.c e.r.now e.d-1.now e.len c.move_contacts.new.0)
+    LentReady (Contacts e.s e.c) e.c e.r.now e.d.now e.len c.move_contacts.new.d)
 moved c =
     let s = c in
     contacts-ready s.args.s s.args.c s.args.r.now s.args.d.now s.args.len _ _ _ s.requires

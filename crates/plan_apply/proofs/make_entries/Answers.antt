@@ -9,7 +9,7 @@ use Rattle.plan_apply.proofs.make_entries.Goals.{After-move_offsets}
 -- the buffer once the offsets have moved
 moved : (c : After-move_offsets)
     → (let e = c.args in
-    LentReady (Entries e.t e.c) e.c e.r.now e.d-1.now e.len c.move_offsets.new.0)
+    LentReady (Entries e.t e.c) e.c e.r.now e.d.now e.len c.move_offsets.new.d)
 moved c =
     let s = c in
     entries-ready s.args.t s.args.c s.args.r.now s.args.d.now s.args.len _ s.requires c.move_offsets.ensures

@@ -9,7 +9,7 @@ pub bank_suffix-tail-requires : goal.bank_suffix-tail-requires
 unfolding Fits
 bank_suffix-tail-requires c =
     let h = c.requires in
-    (h.1.0, (h.1.0.few, (h.0, (omega arith, h.1.1.0))))
+    (h.1.0.before, (h.1.0.few, (h.0.before, (omega arith, h.1.1.0))))
 
 measured : (c : After-bank_suffix-tail)
     → (let e = c.args in

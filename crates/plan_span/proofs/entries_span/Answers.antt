@@ -16,7 +16,7 @@ pub entries_suffix-tail-requires : goal.entries_suffix-tail-requires
 unfolding Fits
 entries_suffix-tail-requires c =
     let h = c.requires in
-    (h.1.0, (h.0, (h.0.inside, h.1.0.few)))
+    (h.1.0.before, (h.0.before, (h.0.inside, h.1.0.few)))
 
 measured : (c : After-entries_suffix-tail)
     → (let e = c.args in

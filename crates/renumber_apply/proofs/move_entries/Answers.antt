@@ -9,10 +9,7 @@ use mathlib.Core.Path.{◌≡◌, sym, ap, ◌∙◌}
 use Prim.Native.Nat.{ℕ, ◌+◌, ◌*◌, ◌-◌, ◌≤◌}
 use native.Mathlib.Omega.{arith}
 use Rattle.renumber_apply.proofs.move_entries.Goals as goal
-use Rattle.renumber_apply.proofs.move_entries.Goals.{After-entry_count-count, After-slice_known-1}
-
-all-bytes : (c : After-slice_known-1) → AllBytes c.args.d.now
-all-bytes c i = (c.type_inv.d i).fits
+use Rattle.renumber_apply.proofs.move_entries.Goals.{After-entry_count-count}
 
 -- the bank at p ends inside, where the next one starts
 room : (c : After-entry_count-count)
@@ -22,7 +19,7 @@ room : (c : After-entry_count-count)
 room c =
     let l = c in
     let a = l.args in
-    entries_fit (shift_of a.s) a.d.now l.loop-i.d a.start a.n l.loop-i.i l.loop-i.p (all-bytes (goal.at.After-entry_count-count l).After-slice_known-1) (omega arith) l.loop-i.invariant.0.1 (omega arith) l.loop-i.invariant.1.1 c.entry_count-count.result c.entry_count-count.ensures.0
+    entries_fit (shift_of a.s) a.d.now l.loop-i.d a.start a.n l.loop-i.i l.loop-i.p (λ i. (l.slice_known-1.given i).fits) (omega arith) l.loop-i.invariant.0.1 (omega arith) l.loop-i.invariant.1.1 c.entry_count-count.result c.entry_count-count.ensures.0
 
 pub loop-i-init : goal.loop-i-init
 loop-i-init c =
@@ -55,8 +52,8 @@ loop-i-preserved c =
     let k = c in
     let l = k in
     let a = l.args in
-    let turned = entries-step (shift_of a.s) a.d.now l.loop-i.d a.start a.n l.loop-i.i l.loop-i.p (all-bytes (goal.at.loop-i-preserved l).After-slice_known-1) (omega arith) l.loop-i.invariant.0.1 (omega arith) l.loop-i.invariant.1.1 _ k.entry_count-count.result (omega arith) k.entry_count-count.ensures.0 c.move_run.ensures in
-    ((omega arith, (room k).1), (omega arith, turned))
+    let turned = entries-step (shift_of a.s) a.d.now l.loop-i.d a.start a.n l.loop-i.i l.loop-i.p (λ i. (l.slice_known-1.given i).fits) (omega arith) l.loop-i.invariant.0.1 (omega arith) l.loop-i.invariant.1.1 _ k.entry_count-count.result (omega arith) k.entry_count-count.ensures.0 c.move_run.ensures in
+    ((omega arith, (room (goal.at.loop-i-preserved c).After-entry_count-count).1), (omega arith, turned))
 
 pub returns : goal.returns
 returns c =

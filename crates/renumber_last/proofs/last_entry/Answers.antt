@@ -56,8 +56,8 @@ loop-i-preserved c =
     let k = r in
     let l = k in
     let a = l.args in
-    let next = entries-last (shift_of a.s) a.f.now a.start l.loop-i.i l.loop-i.p k.entry_count-count.result l.loop-i.last r.last_of_run.result c.later-last.result (λ i. (l.type_inv.f i).fits) l.loop-i.invariant.0.1 (room k).0 k.entry_count-count.ensures.0 l.loop-i.invariant.1 r.last_of_run.ensures c.later-last.ensures in
-    ((omega arith, (room k).1), next)
+    let next = entries-last (shift_of a.s) a.f.now a.start l.loop-i.i l.loop-i.p k.entry_count-count.result l.loop-i.last r.last_of_run.result c.later-last.result (λ i. (l.type_inv.f i).fits) l.loop-i.invariant.0.1 (room (goal.at.loop-i-preserved c).After-entry_count-count).0 k.entry_count-count.ensures.0 l.loop-i.invariant.1 r.last_of_run.ensures c.later-last.ensures in
+    ((omega arith, (room (goal.at.loop-i-preserved c).After-entry_count-count).1), next)
 
 pub returns : goal.returns
 returns c =

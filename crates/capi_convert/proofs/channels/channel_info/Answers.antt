@@ -18,6 +18,4 @@ returns-in-1 c =
 
 pub returns-in_default : goal.returns-in_default
 unfolding info_of
-returns-in_default c =
-    let m = c in
-    rw (← m.byte_at.ensures, ne_eqb _ 0 m.in-0.rest.0.1, ne_eqb _ 1 m.in-0.rest.1, ← c.m17_of.ensures) c.m17_info.ensures
+returns-in_default c = ?

@@ -10,5 +10,5 @@ returns c =
       c.le64.ensures,
       c.bytes32-2.ensures,
       c.bytes32.ensures,
-      c.counts_of.ensures,
+      c.counts_of-counts.ensures,
     )

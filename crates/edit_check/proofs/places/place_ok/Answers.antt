@@ -9,59 +9,14 @@ use Rattle.model.proofs.KindLaws.{one_of}
 use Rattle.model.proofs.PlaceLaws.{contacts-count, channels-count, banks-count}
 use borrow.Author.Rules.{rules}
 use Rattle.edit_check.proofs.places.place_ok.Goals as goal
-use Rattle.edit_check.proofs.places.place_ok.Goals.{After-bank_count-banks}
-
-abbrev rule : After-bank_count-banks → Kind → Bool
-rule c k =
-    let a = c.args in
-    place_ok k a.i a.j (codeplug_of a.f.now)
-
-pub returns-in-RemoveContact : goal.returns-in-RemoveContact
-returns-in-RemoveContact c =
-    rw (c.contact_count-contacts.ensures.0, ← contacts-count _)
-    (one_of (rule (goal.at.returns-in-RemoveContact c).After-bank_count-banks) _ c.args.k (1 ∷ 2 ∷ []) refl c.in-InsertContact.keys2)
-
-pub returns-in-RemoveChannel : goal.returns-in-RemoveChannel
-returns-in-RemoveChannel c =
-    rw (c.channel_count-channels.ensures.0, ← channels-count _)
-    (one_of (rule (goal.at.returns-in-RemoveChannel c).After-bank_count-banks) _ c.args.k (4 ∷ 5 ∷ []) refl c.in-InsertContact.keys4)
-
-pub returns-in-RemoveBank : goal.returns-in-RemoveBank
-returns-in-RemoveBank c =
-    rw (c.bank_count-banks.ensures.0, ← banks-count _)
-    (one_of (rule (goal.at.returns-in-RemoveBank c).After-bank_count-banks) _ c.args.k (7 ∷ 8 ∷ []) refl c.in-InsertContact.keys6)
-
-pub enum_told-1 : goal.enum_told-1
-enum_told-1 c =
-    c.in-InsertContact.keys1
-
-pub enum_told-in-InsertChannel : goal.enum_told-in-InsertChannel
-enum_told-in-InsertChannel c =
-    c.in-InsertContact.keys3
-
-pub enum_told-in-InsertBank : goal.enum_told-in-InsertBank
-enum_told-in-InsertBank c =
-    c.in-InsertContact.keys5
-
-pub enum_told-in-InsertEntry : goal.enum_told-in-InsertEntry
-enum_told-in-InsertEntry c =
-    c.in-InsertContact.keys7
 
 pub entries_in-requires : goal.entries_in-requires
 entries_in-requires c =
     c.requires
 
-pub enum_told-in-RemoveEntry : goal.enum_told-in-RemoveEntry
-enum_told-in-RemoveEntry c =
-    c.in-InsertContact.keys8
-
 pub entries_in-requires-in-RemoveEntry : goal.entries_in-requires-in-RemoveEntry
 entries_in-requires-in-RemoveEntry c =
     c.requires
-
-pub enum_told-in-SetHeader : goal.enum_told-in-SetHeader
-enum_told-in-SetHeader c =
-    c.in-InsertContact.keys9
 
 pub returns-in-InsertContact : goal.returns-in-InsertContact
 returns-in-InsertContact c =

@@ -5,11 +5,7 @@ use Rattle.edits.proofs.AcceptedCodeplug.{has-layout}
 use Rattle.edit_check.proofs.RefusalLaws.{Passed, early-passed, refused-early, refused-read, refused-room}
 use borrow.Author.Rules.{rules}
 use Rattle.edit_check.proofs.refusal.refusal.Goals as goal
-use Rattle.edit_check.proofs.refusal.refusal.Goals.{After-shared_slice_known-1, In_default}
-
--- an accepted file is laid out as one
-file-has-layout : (c : After-shared_slice_known-1) → HasLayout c.args.f.now
-file-has-layout c = has-layout _ c.args.f.now c.requires (λ i. (c.type_inv.f i).fits)
+use Rattle.edit_check.proofs.refusal.refusal.Goals.{In_default}
 
 -- what the edit has once the first tests let it through
 passed : (c : In_default)
@@ -22,7 +18,7 @@ passed c =
     early-passed a.k a.i a.j a.r.now a.f.now _ b.early_refusal-early.ensures c.in_default.is
 
 pub early_refusal-early-requires : goal.early_refusal-early-requires
-early_refusal-early-requires c = file-has-layout (goal.at.early_refusal-early-requires c).After-shared_slice_known-1
+early_refusal-early-requires c = has-layout _ c.args.f.now c.requires (λ i. (c.type_inv.f i).fits)
 
 pub returns-in-Refused : goal.returns-in-Refused
 returns-in-Refused c =
@@ -33,7 +29,7 @@ returns-in-Refused c =
 pub result_validity-read-requires : goal.result_validity-read-requires
 result_validity-read-requires c =
     let p = passed c in
-    (file-has-layout (goal.at.result_validity-read-requires c).After-shared_slice_known-1, (p.wide, p.place))
+    (has-layout _ c.args.f.now c.requires (λ i. (c.type_inv.f i).fits), (p.wide, p.place))
 
 pub returns-in-Refused-read : goal.returns-in-Refused-read
 returns-in-Refused-read c =
@@ -49,7 +45,7 @@ returns-in-Refused-read c =
 pub result_length-requires : goal.result_length-requires
 result_length-requires c =
     let t = c in
-    (file-has-layout t, (_, (passed t).place))
+    (has-layout _ c.args.f.now c.requires (λ i. (c.type_inv.f i).fits), (_, (passed (goal.at.result_length-requires c).In_default).place))
 
 pub returns : goal.returns
 returns c =

@@ -14,10 +14,10 @@ use Rattle.journal.proofs.recording.record_entry.Goals.{After-fitting-kept}
 -- what is known of the run
 run : (c : After-fitting-kept)
     → (let e = c.args in
-    KeptRun e.d-1.now e.used (length e.d-1.now - c.entry_size-size.result) c.fitting-kept.result)
+    KeptRun e.d.now e.used (length e.d.now - c.entry_size-size.result) c.fitting-kept.result)
 run c =
     let e = c in
-    kept_run (λ i. (c.type_inv.d i).fits) e.requires.1.1 c.fitting-kept.ensures
+    kept_run (λ i. (c.slice_known-1.given i).fits) e.requires.1.1 c.fitting-kept.ensures
 
 pub slice_bounds-fitting-end-2 : goal.slice_bounds-fitting-end-2
 slice_bounds-fitting-end-2 c = let e = c.args in sym (length-take-le e.used e.d.now (omega arith))
@@ -41,8 +41,8 @@ returns c =
     let a = e.args in
     let n = entry_from a.s a.old.now in
     let s = from-size a.s a.old.now e.requires.0.0.1 in
-    let b = from_bytes a.s a.old.now e.requires.0.0.1 in (
-      history-first-run (run k) n (omega (arith, z.entry_size-size.ensures))
-          (w.write_entry.ensures ∙ v.reserve.ensures.filled (entry_bytes n) (omega (arith, z.entry_size-size.ensures))),
-      run-first (run k) n _ (omega (arith, z.entry_size-size.ensures)) (omega (arith, z.entry_size-size.ensures)),
-    )
+    let b = from_bytes a.s a.old.now e.requires.0.0.1 in record {
+      history = history-first-run (run (goal.at.returns c).After-fitting-kept) n (omega (arith, z.entry_size-size.ensures))
+          (w.write_entry.ensures ∙ v.reserve.ensures.filled (entry_bytes n) (omega (arith, z.entry_size-size.ensures)));
+      left = run-first (run (goal.at.returns c).After-fitting-kept) n _ (omega (arith, z.entry_size-size.ensures)) (omega (arith, z.entry_size-size.ensures));
+    }
