@@ -76,6 +76,7 @@ fn m17_info(i: channel::M17Info) -> ChannelInfo
     v
 }
 
+#[tactic(auto, unfolding(channel_reader::specs::Reading::info_of))]
 fn channel_info(s: &[u8]) -> ChannelInfo
     ensures { result ≡ channel_info (info_of s.now) }
 {

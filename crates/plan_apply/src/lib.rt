@@ -53,6 +53,7 @@ fn make_entries(d: &mut [u8], len: usize, t: Table, c: Counted, r: &[u8])
     make_counted(d, len, c, r);
 }
 
+#[tactic(auto, unfolding(plan::specs::Fits::Fits))]
 fn make_bank(d: &mut [u8], len: usize, t: Table, at: usize, offset: u32, c: Counted, r: &[u8])
     requires { (Fits (plan.AddBank t at offset c) r.now (take len d.old)) × (len + 38 ≤ length d.old) }
     ensures { d.new ≡ holding d.old len (planned (plan.AddBank t at offset c) r.now (take len d.old)) }

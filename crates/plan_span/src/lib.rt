@@ -97,6 +97,7 @@ fn channels_span(f: &[u8], s: Shift, c: Counted, r: &[u8]) -> Span
     }
 }
 
+#[tactic(auto, unfolding(plan::specs::Fits::Fits))]
 fn entries_span(f: &[u8], t: Table, c: Counted, r: &[u8]) -> Span
     requires { Fits (plan.Entries t c) r.now f.now }
     ensures { result ≡ span_of (entry_of f.now (planned (plan.Entries t c) r.now f.now)) }
@@ -110,6 +111,7 @@ fn entries_span(f: &[u8], t: Table, c: Counted, r: &[u8]) -> Span
     span_from(t.start, f.len() - end + tail, f.len(), new)
 }
 
+#[tactic(auto, unfolding(plan::specs::Fits::Fits))]
 fn add_bank_span(f: &[u8], t: Table, at: usize, offset: u32, c: Counted, r: &[u8]) -> Span
     requires { Fits (plan.AddBank t at offset c) r.now f.now }
     ensures { result ≡ span_of (entry_of f.now (planned (plan.AddBank t at offset c) r.now f.now)) }
@@ -125,6 +127,7 @@ fn add_bank_span(f: &[u8], t: Table, at: usize, offset: u32, c: Counted, r: &[u8
     )
 }
 
+#[tactic(auto, unfolding(plan::specs::Fits::Fits))]
 fn drop_bank_span(f: &[u8], t: Table, b: Block, c: Counted, r: &[u8]) -> Span
     requires { Fits (plan.DropBank t b c) r.now f.now }
     ensures { result ≡ span_of (entry_of f.now (planned (plan.DropBank t b c) r.now f.now)) }

@@ -1,5 +1,6 @@
 -- Each arm knows its kinds: the rule for them, where the kind's place is there.
 use mathlib.Core.Path.{◌≡◌, refl}
+use mathlib.Core.Logic.{inl, inr}
 use Prim.Native.Nat.{ℕ}
 use mathlib.Core.List.{List, [], ◌∷◌}
 use Rattle.fields.specs.Rule.{◌then◌, unless}
@@ -93,3 +94,11 @@ pub returns-in-SetHeader : goal.returns-in-SetHeader
 unfolding may_grow unless ◌then◌
 returns-in-SetHeader c =
     rw (c.set_header.ensures, c.in-SetHeader.is)
+
+pub returns-in-RemoveContact : goal.returns-in-RemoveContact
+unfolding may_grow unless ◌then◌
+returns-in-RemoveContact c =
+    elim c.in-RemoveContact.is [
+      inl e ↦ rw e
+    | inr s ↦ elim s [ inl e ↦ rw e | inr u ↦ elim u [ inl e ↦ rw e | inr e ↦ rw e ] ]
+    ]

@@ -15,7 +15,7 @@ moved : (c : After-move_entries)
 moved c =
     let s = c in
     channels-ready s.args.s s.args.c s.args.r.now s.args.d.now s.args.len _ _ _ s.requires
-    (λ i. (c.type_inv.d i).fits)
+    (λ i. (c.slice_known-1.given i).fits)
     c.banks_place-start.ensures.0 c.bank_count-n.ensures.0 c.move_entries.ensures
 
 pub move_entries-requires : goal.move_entries-requires

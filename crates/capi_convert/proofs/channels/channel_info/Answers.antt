@@ -15,7 +15,3 @@ unfolding info_of
 returns-in-1 c =
     let m = c in
     rw (← m.byte_at.ensures, m.in-1.is, ← c.dmr_of.ensures) c.dmr_info.ensures
-
-pub returns-in_default : goal.returns-in_default
-unfolding info_of
-returns-in_default c = ?

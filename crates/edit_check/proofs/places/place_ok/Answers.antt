@@ -1,5 +1,6 @@
 -- Each arm knows its kinds: the definition's rule for them, over the counts of the file.
 use mathlib.Core.Path.{refl}
+use mathlib.Core.Logic.{inl, inr}
 use mathlib.Core.Bool.{Bool}
 use mathlib.Core.List.{[], ◌∷◌}
 use Rattle.model.specs.declared.Kind.{Kind}
@@ -41,3 +42,15 @@ returns-in-RemoveEntry c =
 pub returns-in-SetHeader : goal.returns-in-SetHeader
 returns-in-SetHeader c =
     rw c.in-SetHeader.is
+
+pub returns-in-RemoveContact : goal.returns-in-RemoveContact
+returns-in-RemoveContact c =
+    elim c.in-RemoveContact.is [ inl e ↦ rw (c.contact_count-contacts.ensures.0, e, contacts-count) | inr e ↦ rw (c.contact_count-contacts.ensures.0, e, contacts-count) ]
+
+pub returns-in-RemoveChannel : goal.returns-in-RemoveChannel
+returns-in-RemoveChannel c =
+    elim c.in-RemoveChannel.is [ inl e ↦ rw (c.channel_count-channels.ensures.0, e, channels-count) | inr e ↦ rw (c.channel_count-channels.ensures.0, e, channels-count) ]
+
+pub returns-in-RemoveBank : goal.returns-in-RemoveBank
+returns-in-RemoveBank c =
+    elim c.in-RemoveBank.is [ inl e ↦ rw (c.bank_count-banks.ensures.0, e, banks-count) | inr e ↦ rw (c.bank_count-banks.ensures.0, e, banks-count) ]
