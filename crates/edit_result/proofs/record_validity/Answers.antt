@@ -99,6 +99,6 @@ pub returns-in-RemoveContact : goal.returns-in-RemoveContact
 unfolding may_grow unless ◌then◌
 returns-in-RemoveContact c =
     elim c.in-RemoveContact.is [
-      inl e ↦ rw e
-    | inr s ↦ elim s [ inl e ↦ rw e | inr u ↦ elim u [ inl e ↦ rw e | inr e ↦ rw e ] ]
+      | inl e ↦ rw e
+      | inr s ↦ elim s [ inl e ↦ rw e | inr u ↦ elim u [ inl e ↦ rw e | inr e ↦ rw e ] ]
     ]

@@ -20,7 +20,6 @@ unfolding tone_table
 loop-i-preserved c = (
   omega arith,
   c.loop-i.invariant.1 ∙ search-on tone_table _ c.loop-i.i (omega arith) c.if-i-tenths.false,
-
 )
 
 pub returns : goal.returns

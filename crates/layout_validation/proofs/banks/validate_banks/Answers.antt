@@ -23,7 +23,6 @@ loop-i-init c = (
       ),
     ),
   ),
-
 )
 
 pub returns-in-Refused : goal.returns-in-Refused
