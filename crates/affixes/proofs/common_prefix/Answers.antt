@@ -1,4 +1,5 @@
 use native.Mathlib.Omega.{arith}
+use Prim.Native.Nat.{◌-◌}
 use mathlib.Core.Logic.{inl, inr}
 use Rattle.affixes.proofs.Laws.{start-byte, start-end, start-stop}
 use Rattle.affixes.proofs.common_prefix.Goals as goal

@@ -1,4 +1,5 @@
 use native.Mathlib.Omega.{arith}
+use Prim.Native.Nat.{◌-◌}
 use mathlib.Core.Logic.{inl, inr}
 use Rattle.affixes.proofs.Laws.{end-byte, end-end, end-stop}
 use Rattle.affixes.proofs.common_suffix.Goals as goal

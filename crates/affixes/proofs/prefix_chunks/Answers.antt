@@ -1,4 +1,5 @@
 use native.Mathlib.Omega.{arith}
+use Prim.Native.Nat.{◌-◌}
 use Rattle.affixes.proofs.Laws.{start_none, start-more}
 use Rattle.affixes.proofs.prefix_chunks.Goals as goal
 

@@ -1,4 +1,5 @@
 use native.Mathlib.Omega.{arith}
+use Prim.Native.Nat.{◌-◌}
 use Rattle.affixes.proofs.Laws.{end_none, end_more}
 use Rattle.affixes.proofs.suffix_chunks.Goals as goal
 

@@ -1,3 +1,4 @@
+use Prim.Native.Nat.{◌-◌}
 use native.Mathlib.Omega.{arith}
 use native.Mathlib.Numerals.{add-one}
 use Rattle.text.proofs.Laws.{text-more, text-stop, text-end}

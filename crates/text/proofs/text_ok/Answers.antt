@@ -1,4 +1,5 @@
 use native.Mathlib.Omega.{arith}
+use Prim.Native.Nat.{◌-◌}
 use Rattle.text.proofs.Laws.{rest_ok-start, scan_step, scan-end}
 use Rattle.text.proofs.text_ok.Goals as goal
 

@@ -1,4 +1,5 @@
 use mathlib.Core.Path.{refl, sym, ◌∙◌}
+use Prim.Native.Nat.{◌-◌}
 use Rattle.tones.specs.Tone.{index_of, tone_table}
 use Rattle.tones.proofs.Laws.{search-hit, search-on, search-over}
 use native.Mathlib.Omega.{arith}

@@ -1,4 +1,5 @@
 use native.Mathlib.Omega.{arith}
+use Prim.Native.Nat.{◌-◌}
 use lib.ListN.{length-set}
 use Rattle.buffers.proofs.Laws.{zeros-more, zeros-none, zeros-all}
 use Rattle.buffers.proofs.block.clear.Goals as goal

@@ -1,5 +1,5 @@
 use native.Mathlib.Omega.{arith}
-use Prim.Native.Nat.{◌+◌}
+use Prim.Native.Nat.{◌+◌, ◌-◌}
 use lib.ListN.{length-set}
 use Rattle.buffers.proofs.Laws.{up_step, up_none, up-all}
 use Rattle.buffers.proofs.block.move_up.Goals as goal

@@ -1,3 +1,4 @@
+use Prim.Native.Nat.{◌-◌}
 use lib.ListN.{length-set}
 use native.Mathlib.Omega.{arith}
 use Rattle.fields.proofs.Laws.{over_none, over-more, over-all}
