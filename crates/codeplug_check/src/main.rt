@@ -2,18 +2,25 @@
 // and its place. It takes at most 65,536 bytes, and reads addresses by the older edition.
 #![tactic(auto)]
 
+ghost use Rattle.std.specs.Prelude.{◌++◌, codes, decimal, OnOk};
+ghost use Rattle.std.specs.Io.KnownBytes.{Appends};
+
 use m17::Edition;
 use program_io::input::{LARGE, read_full};
 use program_io::print::{number, refused, word};
 use std::io::{Read, Result, Write};
 use validation::Validated;
 
-fn print_refusal<W: Write>(out: &mut W, n: u8, place: usize) -> Result<()> {
+fn print_refusal<W: Write>(out: &mut W, n: u8, place: usize) -> Result<()>
+    ensures { OnOk result (Appends (W.contents out.old) (W.contents out.new) (codes "refused " ++ decimal n ++ codes " at " ++ decimal place ++ codes "\n")) }
+{
     refused(out, n, place)?;
     word(out, b"\n")
 }
 
-fn print_count<W: Write>(out: &mut W, n: u16) -> Result<()> {
+fn print_count<W: Write>(out: &mut W, n: u16) -> Result<()>
+    ensures { OnOk result (Appends (W.contents out.old) (W.contents out.new) (codes " " ++ decimal n)) }
+{
     number(out, b" ", n as u64)
 }
 

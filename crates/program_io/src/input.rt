@@ -1,5 +1,6 @@
 // Bytes read into buffers. The error is the first that a read gives.
-ghost use Rattle.std.specs.Prelude.{◌≡◌, ◌≤◌, min, length, IfOk};
+ghost use Rattle.std.specs.Prelude.{◌≡◌, ◌<◌, ◌≤◌, min, length, take, IfOk};
+ghost use Rattle.std.specs.Io.KnownBytes.{Consumes, IsAtEnd};
 
 use fields::numbers::le32;
 use std::io::{Read, Result};
@@ -9,7 +10,9 @@ pub const LARGE: usize = 65536;
 
 // Reads until the buffer is full or the input ends, and answers how many bytes it put at the buffer's start.
 pub fn read_full<R: Read>(input: &mut R, buffer: &mut [u8]) -> Result<usize>
-    ensures { IfOk result (λ n. n ≤ length buffer.new) }
+    ensures bound { IfOk result (λ n. n ≤ length buffer.new) }
+    ensures bytes { IfOk result (λ n. Consumes (R.remaining input.old) (R.remaining input.new) (take n buffer.new)) }
+    ensures end { IfOk result (λ n. n < length buffer.new → IsAtEnd (R.remaining input.new)) }
 {
     let mut done = 0;
     while done < buffer.len() {
@@ -32,7 +35,8 @@ pub fn count(size: u32, buffer: &[u8]) -> usize
 // Reads so many bytes into the start of a buffer, as many as it has at most, and answers how many. Where the input has fewer, the
 // others stay as they were.
 pub fn bytes<R: Read>(input: &mut R, size: u32, buffer: &mut [u8]) -> Result<usize>
-    ensures { IfOk result (λ n. n ≤ length buffer.new) }
+    ensures bound { IfOk result (λ n. n ≤ length buffer.new) }
+    ensures value { IfOk result (λ n. n ≡ min size (length buffer.new)) }
 {
     let n = count(size, buffer);
     read_full(input, &mut buffer[..n])?;
