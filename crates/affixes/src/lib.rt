@@ -1,4 +1,6 @@
 // The longest common beginning and ending of two byte slices, by chunks of 32 bytes while they agree.
+#![tactic(auto)]
+
 pub mod pieces; // pieces.rt: the common ending with a list in pieces
 
 ghost use Rattle.std.specs.Prelude.{◌≡◌, true, ◌+◌, ◌≤◌, length};

@@ -1,4 +1,6 @@
 // Bytes that hold more than one value, and signed bytes. Each kind has one pair of functions, out of a byte and into one.
+#![tactic(auto)]
+
 ghost use Rattle.std.specs.Prelude.{◌≡◌, true};
 ghost use Rattle.bits.specs.Packed.{number_flag_of, number_flag_byte, number_flag_ok, number_flag_valid, nibbles_of, nibbles_byte, nibbles_valid, signed_of, signed_byte};
 

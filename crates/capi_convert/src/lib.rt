@@ -1,4 +1,6 @@
 // The library's answers as structures of C (bindings/c/include/codeplug.h).
+#![tactic(auto)]
+
 pub mod channels; // channels.rt: a channel
 pub mod contacts; // contacts.rt: a contact
 pub mod files; // files.rt: what validation answers, the header, a bank, and an entry

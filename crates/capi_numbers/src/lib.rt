@@ -1,5 +1,7 @@
 // The structures of the C interface that are numbers alone: a refusal, the answers of the two calls, of addresses and of tones, and a record's
 // values.
+#![tactic(auto)]
+
 pub mod history; // history.rt: how many entries a history holds
 
 ghost use Rattle.std.specs.Prelude.{◌≡◌};

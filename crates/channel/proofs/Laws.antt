@@ -9,7 +9,7 @@ use lib.Dec.{leb, ltb, eqb}
 use borrow.Author.Tests.{ltb-true, ltb-false, le-leb, lt-leb, eq-eqb, ne_eqb, leb-true, leb-false, eqb-true}
 use Rattle.fields.specs.Bytes.{part, num}
 use Rattle.text.specs.Text.{text_ok}
-use Rattle.fields.specs.Rule.{◌then◌, unless, field_of, field}
+use Rattle.fields.specs.Rule.{◌then◌, field_of, field}
 use Rattle.fields.specs.declared.rule.Validity.{Validity}
 use Rattle.fields.specs.declared.rule.Validity.TheVariants.{Valid, Refused}
 use Rattle.fields.proofs.Laws.{then-valid, both-valid, field-valid, field-passes, field_cut}

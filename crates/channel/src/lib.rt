@@ -1,4 +1,6 @@
 // Channel records of 90 bytes: their types and single values (document 01, "The file").
+#![tactic(auto)]
+
 pub mod values; // values.rt: the rules of single values
 
 use bits::Nibbles;

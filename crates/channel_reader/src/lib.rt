@@ -1,4 +1,6 @@
 // A channel's bytes to its value.
+#![tactic(auto)]
+
 ghost use Rattle.std.specs.Prelude.{◌≡◌, true, ◌≤◌, length};
 ghost use Rattle.channel.specs.Rule.{channel_rule};
 ghost use Rattle.channel_reader.specs.Reading.{location_of, common_of, fm_of, dmr_of, m17_of, info_of, channel_of, blank_channel, channel_answer};

@@ -1,5 +1,7 @@
 // Validation of a channel record's 90 bytes (document 01, "The file"): the first bad field of a channel whose bytes s start at base. Whether its contact index names a contact of the file comes in as
 // `named`.
+#![tactic(auto)]
+
 pub mod whole; // whole.rt: whether a whole channel is valid, without a branch
 
 ghost use Rattle.std.specs.Prelude.{◌≡◌, ◌<◌, ◌^◌};

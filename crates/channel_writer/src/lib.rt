@@ -1,4 +1,6 @@
 // A channel's value to its bytes: 25, then the fields in order; a refusal changes nothing.
+#![tactic(auto)]
+
 ghost use Rattle.std.specs.Prelude.{◌≡◌, ◌++◌, length, take, drop};
 ghost use Rattle.fields.specs.Bytes.{zeros, over};
 ghost use Rattle.channel_writer.specs.Writing.{head_write_rule, location_write_rule, info_write_rule, channel_write_rule, head_bytes, location_bytes, info_bytes, channel_bytes, channel_written};

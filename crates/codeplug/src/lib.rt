@@ -1,4 +1,6 @@
 // The codeplug file's parts, read (document 01, "The file").
+#![tactic(auto)]
+
 pub mod bank_entries; // bank_entries.rt: the entries of bank n
 pub mod bytes; // bytes.rt: the bytes of record n
 pub mod read; // read.rt: the header, contact n, channel n and bank n of a file

@@ -1,4 +1,6 @@
 // Contact records of 39 bytes: their types and the settings byte (document 01, "The file").
+#![tactic(auto)]
+
 pub mod settings_byte; // settings_byte.rt: the settings byte of a DMR contact
 
 use fields::rule::Validity;

@@ -1,4 +1,6 @@
 // A contact's bytes to its value.
+#![tactic(auto)]
+
 ghost use Rattle.std.specs.Prelude.{◌≡◌, ◌≤◌, length};
 ghost use Rattle.contact.specs.Contact.{info_of, contact_of, blank_contact, contact_answer, contact_rule};
 

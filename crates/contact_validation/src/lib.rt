@@ -1,4 +1,6 @@
 // Validation of a contact record's 39 bytes (document 01, "The file"): the first bad field of a contact whose bytes s start at base.
+#![tactic(auto)]
+
 pub mod whole; // whole.rt: whether a whole contact is valid, without a branch
 
 ghost use Rattle.std.specs.Prelude.{◌≡◌, cond, ◌<◌, ◌^◌, eqb};

@@ -1,4 +1,6 @@
 // A contact's value to its bytes: 25, then the fields in order; a refusal changes nothing.
+#![tactic(auto)]
+
 ghost use Rattle.std.specs.Prelude.{◌≡◌, true, ◌++◌, length, take, drop};
 ghost use Rattle.fields.specs.Bytes.{zeros};
 ghost use Rattle.text.specs.Text.{given_ok};

@@ -1,4 +1,6 @@
 // The plan of an edit: which bytes it changes, and how.
+#![tactic(auto)]
+
 ghost use Rattle.std.specs.Prelude.{◌≡◌, ◌≤◌};
 ghost use Rattle.model.specs.declared.Kind.TheVariants as kind;
 ghost use Rattle.layout.specs.Places.{bank_count};

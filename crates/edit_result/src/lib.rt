@@ -1,4 +1,6 @@
 // What reading the result of an edit of an accepted file gives, and how long it is, told without building it.
+#![tactic(auto)]
+
 ghost use Rattle.std.specs.Prelude.{◌≡◌, true, ℕ, ◌+◌, ◌*◌, ◌<◌, ◌≤◌, ◌^◌, length, get_or, ltb};
 ghost use Rattle.fields.specs.Bytes.{part, little};
 ghost use Rattle.text.specs.Text.{text_ok};

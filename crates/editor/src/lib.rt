@@ -1,4 +1,6 @@
 // An edit made in place, and its entry recorded.
+#![tactic(auto)]
+
 ghost use Rattle.std.specs.Prelude.{◌≡◌, take};
 ghost use Rattle.fields.specs.declared.rule.Validity.TheVariants.{Valid};
 ghost use Rattle.journal.specs.Machine.{buffers_rule, edit_step};

@@ -1,7 +1,7 @@
 -- Laws of an element put into a list, taken out of it, or changed: lengths, what holds of every element, and what stands where.
 use Prim.Native.Nat.{ℕ, zero, suc, ◌≤◌, ◌<◌}
 use mathlib.Core.Path.{◌≡◌, refl, ap}
-use mathlib.Core.List.{List, [], ◌∷◌}
+use mathlib.Core.List.{List, ◌∷◌}
 use native.Mathlib.Omega.{arith}
 use lib.ListN.{length, take, drop, get_or}
 use Rattle.model.specs.Edits.{insert_at, remove_at, replace_at, change_at}

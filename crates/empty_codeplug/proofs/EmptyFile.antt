@@ -1,6 +1,5 @@
 -- The empty codeplug is accepted, with no contact, channel or bank. Each side computes.
 use mathlib.Core.Path.{◌≡◌, refl}
-use mathlib.Core.List.{[]}
 use Rattle.fields.specs.Bytes.{zeros, little}
 use Rattle.fields.specs.Rule.{◌then◌, unless, field_of, each}
 use Rattle.text.specs.Text.{printable, plain_text, all_zero, text_of, text_ok}

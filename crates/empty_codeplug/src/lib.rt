@@ -1,4 +1,6 @@
 // The empty codeplug written: its header alone; a refusal changes nothing.
+#![tactic(auto)]
+
 ghost use Rattle.std.specs.Prelude.{◌≡◌, length};
 ghost use Rattle.empty_codeplug.specs.Empty.{empty_codeplug, empty_write_rule, empty_written};
 

@@ -1,4 +1,6 @@
 // Bank entries, one at a time, each call going on from the last: by a place, and by a walker that holds the bytes and the place.
+#![tactic(auto)]
+
 ghost use Rattle.std.specs.Prelude.{◌≡◌};
 ghost use Rattle.entries.specs.Entry.{entry_step};
 

@@ -1,4 +1,6 @@
 // The entries of a bank, validated (document 01, "The file").
+#![tactic(auto)]
+
 mod whole; // whole.rt: whether all entries are valid
 
 ghost use Rattle.std.specs.Prelude.{◌≡◌, ◌+◌, ◌<◌, ◌^◌};

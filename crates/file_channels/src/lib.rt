@@ -1,4 +1,6 @@
 // The channels of a file, validated: each, and the first bad one.
+#![tactic(auto)]
+
 pub mod whole; // whole.rt: whether all channels are valid
 
 ghost use Rattle.std.specs.Prelude.{◌≡◌, ◌<◌, ◌^◌};

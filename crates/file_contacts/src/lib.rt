@@ -1,4 +1,6 @@
 // The contacts of a file, validated: each, and the first bad one.
+#![tactic(auto)]
+
 mod whole; // whole.rt: whether all contacts are valid
 
 ghost use Rattle.std.specs.Prelude.{◌≡◌, ◌<◌, ◌^◌};

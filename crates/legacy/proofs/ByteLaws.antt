@@ -1,11 +1,10 @@
 -- Laws of the byte that is moved: what it held by the legacy reading it holds by the new one, valid or not; no two become the same.
 use Prim.Native.Nat.{ℕ, ◌+◌, ◌*◌, ◌/◌, ◌%◌, ◌<◌}
 use mathlib.Core.Path.{◌≡◌, refl, sym, ap, ◌∙◌}
-use mathlib.Core.Bool.{Bool, true, ◌&&◌}
+use mathlib.Core.Bool.{true}
 use native.Mathlib.Omega.{arith}
-use lib.Dec.{leb, eqb}
+use lib.Dec.{leb}
 use borrow.Author.Tests.{eqb-true}
-use Rattle.bits.specs.declared.NumberFlag.{NumberFlag}
 use Rattle.bits.specs.Packed.{number_flag_of, number_flag_ok}
 use Rattle.bits.proofs.Laws.{and_right}
 use Rattle.legacy.specs.Reading.{legacy_number_flag_of, legacy_number_flag_ok}

@@ -1,20 +1,19 @@
 -- Laws of a channel in the new order: what refuses it and what it holds is what it was by the legacy reading, cut or not; no two become the same, and one that is valid
 -- by both readings stays.
 use Prim.Native.Nat.{ℕ}
-use mathlib.Core.Path.{◌≡◌, refl, ap, sym, ◌∙◌}
+use mathlib.Core.Path.{◌≡◌, refl, sym, ◌∙◌}
 use mathlib.Core.Bool.{Bool, true}
-use mathlib.Core.List.{List, [], ◌∷◌}
+use mathlib.Core.List.{List, ◌∷◌}
 use native.Mathlib.Omega.{arith}
-use lib.ListN.{length, get_or}
+use lib.ListN.{get_or}
 use Rattle.fields.specs.Bytes.{AllBytes}
 use Rattle.fields.specs.declared.rule.Validity.TheVariants.{Valid}
-use Rattle.bits.specs.Packed.{number_flag_of, number_flag_ok}
-use Rattle.channel.specs.Values.{mode_ok, traits_of}
+use Rattle.channel.specs.Values.{traits_of}
 use Rattle.channel.specs.Rule.{head_rule, texts_rule, location_rule, fm_rule, dmr_rule, m17_rule, info_rule, channel_rule, named_contact}
 use Rattle.channel.proofs.Laws.{valid-channel}
 use Rattle.channel_reader.specs.Reading.{location_of, common_of, fm_of, dmr_of, m17_of, info_of, channel_of}
 use Rattle.legacy.specs.Reading.{legacy_number_flag_ok, legacy_channel_rule, legacy_traits_of, legacy_channel_of}
-use Rattle.legacy.specs.Migration.{migrated_byte, migrated_at, migrated_channel}
+use Rattle.legacy.specs.Migration.{migrated_at, migrated_channel}
 use Rattle.legacy.proofs.ByteLaws.{zero_ok, zero_of, migrated-ok, migrated-of, both_zero}
 use Rattle.legacy.proofs.RunLaws.{Keeps, KeepsBytes, OneToOne}
 use Rattle.legacy.proofs.RecordLaws.{at_here, at_other, at_long, at_one, at-stays, at-bytes}

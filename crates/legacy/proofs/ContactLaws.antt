@@ -1,6 +1,6 @@
 -- Laws of a contact in the new order: what refuses it and what it holds is what it was by the legacy reading, cut or not; no two become the same, and one that is valid
 -- by both readings stays.
-use Prim.Native.Nat.{ℕ, ◌+◌, ◌≤◌, ◌<◌}
+use Prim.Native.Nat.{ℕ}
 use mathlib.Core.Path.{◌≡◌, refl, ap, sym, ◌∙◌}
 use mathlib.Core.Logic.{inl, inr}
 use mathlib.Core.Bool.{Bool, true, false, cond}
@@ -9,14 +9,14 @@ use native.Mathlib.Omega.{arith}
 use lib.ListN.{length, get_or}
 use lib.Dec.{eqb}
 use borrow.Author.Tests.{eqb-true}
-use Rattle.fields.specs.Bytes.{part, AllBytes}
+use Rattle.fields.specs.Bytes.{AllBytes}
 use Rattle.fields.specs.declared.rule.Validity.TheVariants.{Valid}
 use Rattle.bits.specs.Packed.{number_flag_ok}
 use Rattle.m17.specs.declared.Edition.{Edition}
 use Rattle.contact.specs.Contact.{dmr_rule, contact_rule, settings_of, info_of, contact_of}
 use Rattle.contact.proofs.Laws.{ValidInfo, contact-valid}
 use Rattle.legacy.specs.Reading.{legacy_number_flag_ok, legacy_contact_rule, legacy_settings_of, legacy_contact_of}
-use Rattle.legacy.specs.Migration.{migrated_byte, migrated_at, migrated_contact}
+use Rattle.legacy.specs.Migration.{migrated_at, migrated_contact}
 use Rattle.legacy.proofs.ByteLaws.{migrated-ok, migrated-of, both_zero}
 use Rattle.legacy.proofs.RunLaws.{Keeps, KeepsBytes, OneToOne}
 use Rattle.legacy.proofs.RecordLaws.{at_here, at_other, at_before, at_long, at_one, at-stays, at-bytes}

@@ -8,19 +8,16 @@ use lib.ListN.{length, take, drop, get_or}
 use lib.Dec.{ltb, eqb}
 use borrow.Author.Tests.{ltb-true}
 use Rattle.fields.specs.Bytes.{part, AllBytes}
-use Rattle.fields.specs.Rule.{each}
 use Rattle.fields.specs.declared.rule.Validity.TheVariants.{Valid}
 use Rattle.fields.proofs.Laws.{get_d_part, bytes-part, each_same, each-valid, then-valid}
 use Rattle.m17.specs.declared.Edition.{Edition}
-use Rattle.contact.specs.Contact.{contact_rule}
-use Rattle.channel.specs.Rule.{channel_rule}
 use Rattle.channel.specs.declared.ContactIndex.{ContactIndex}
 use Rattle.channel.specs.declared.ContactIndex.TheVariants.{Nobody, Index}
 use Rattle.layout.specs.Places.{contact_count, channel_count, contact_place, channel_place, offset_place}
 use Rattle.file_rule.specs.File.{contact_at, contacts_rule, names_contact, index_ok, channel_at, channels_rule, file_rule}
 use Rattle.file_rule.proofs.Laws.{file-valid, contact-there, channel-there}
-use Rattle.legacy.specs.Reading.{legacy_contact_rule, legacy_contact_at, legacy_contacts_rule, legacy_channel_rule, legacy_channel_at, legacy_channels_rule, legacy_file_rule}
-use Rattle.legacy.specs.Migration.{migrated_contact, migrated_channel, contacts_migrated, channels_migrated, migrated}
+use Rattle.legacy.specs.Reading.{legacy_contact_at, legacy_contacts_rule, legacy_channel_at, legacy_channels_rule, legacy_file_rule}
+use Rattle.legacy.specs.Migration.{migrated_contact, migrated_channel, contacts_migrated, migrated}
 use Rattle.legacy.proofs.RunLaws.{length-changed, take-changed, record-changed, drop-behind, changed-one, changed-stays, changed-bytes}
 use Rattle.legacy.proofs.LayoutLaws.{part_same, contact_count-same, channel_count-same, channel_place-same, header-same, offsets-same, banks-same}
 use Rattle.legacy.proofs.ContactLaws.{contact-keeps, contact-mode, contact-rule, contact-one, contact-bytes, contact-stays}

@@ -1,14 +1,14 @@
 -- Two files of one length that have the same header and the same bytes from a place on: their counts and places are the same, and what the rules ask of the header, and of
 -- offsets and banks from that place on.
-use Prim.Native.Nat.{ℕ, zero, suc, ◌+◌, ◌*◌, ◌≤◌, ◌<◌}
-use mathlib.Core.Path.{◌≡◌, refl, ap, sym, ◌∙◌}
+use Prim.Native.Nat.{ℕ, zero, suc, ◌+◌, ◌*◌, ◌≤◌}
+use mathlib.Core.Path.{◌≡◌, refl, sym, ◌∙◌}
 use mathlib.Core.List.{List}
 use native.Mathlib.Omega.{arith}
 use lib.ListN.{length, take, drop}
-use Rattle.fields.specs.Bytes.{part, num}
+use Rattle.fields.specs.Bytes.{part}
 use Rattle.fields.specs.Rule.{each}
 use Rattle.fields.proofs.Laws.{part-part, each_same}
-use Rattle.layout.specs.Places.{contact_count, channel_count, bank_count, counts_of, contact_place, channel_place, offset_place, banks_place}
+use Rattle.layout.specs.Places.{contact_count, channel_count, bank_count, counts_of, channel_place, offset_place, banks_place}
 use Rattle.layout.specs.Header.{identity_rule, header_rule}
 use Rattle.layout.specs.Banks.{offset_at, offsets_rule, entry_at, entry_count, bank_head, bank_at, next_bank, banks_from, banks_rule, bank_from, bank_place}
 

@@ -1,12 +1,11 @@
 -- What the legacy reading refuses of a file that the new one accepts: a traits or settings byte, by 7.
 use Prim.Native.Nat.{ℕ, zero, suc, ◌+◌, ◌*◌, ◌≤◌, ◌<◌}
-use mathlib.Core.Path.{◌≡◌, refl, ap, sym, ◌∙◌}
+use mathlib.Core.Path.{◌≡◌, refl}
 use mathlib.Core.Bool.{Bool, true, false, cond}
 use mathlib.Core.List.{List}
 use native.Mathlib.Omega.{arith}
 use lib.ListN.{length, get_or}
 use lib.Dec.{eqb}
-use Rattle.fields.specs.Bytes.{part}
 use Rattle.fields.specs.Rule.{◌then◌, unless, field_of, each}
 use Rattle.fields.specs.declared.rule.Validity.{Validity}
 use Rattle.fields.specs.declared.rule.Validity.TheVariants.{Valid, Refused}
@@ -15,7 +14,7 @@ use Rattle.m17.specs.declared.Edition.{Edition}
 use Rattle.contact.specs.Contact.{dmr_rule, m17_rule, contact_rule}
 use Rattle.channel.specs.Rule.{head_rule, channel_rule}
 use Rattle.layout.specs.Places.{contact_count, channel_count, contact_place, channel_place}
-use Rattle.file_rule.specs.File.{contact_at, contacts_rule, index_ok, channel_at, channels_rule, file_rule}
+use Rattle.file_rule.specs.File.{contact_at, contacts_rule, channel_at, channels_rule, file_rule}
 use Rattle.legacy.specs.Reading.{legacy_number_flag_ok, legacy_contact_rule, legacy_contact_at, legacy_contacts_rule, legacy_channel_rule, legacy_channel_at, legacy_channels_rule, legacy_file_rule}
 
 -- v is no refusal but one by 7

@@ -1,4 +1,6 @@
 // Traits and settings of a legacy file: their rule, and the byte in the new order (document 02, [5]).
+#![tactic(auto)]
+
 ghost use Rattle.std.specs.Prelude.{◌≡◌};
 ghost use Rattle.legacy.specs.Reading.{legacy_number_flag_ok};
 ghost use Rattle.legacy.specs.Migration.{migrated_byte};

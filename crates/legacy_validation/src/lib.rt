@@ -1,5 +1,7 @@
 // Validation of a file by the legacy reading (document 02, [5]): the walk over its contacts and channels, whose traits and settings have another rule; everything
 // else is validated by what validates any file.
+#![tactic(auto)]
+
 ghost use Rattle.std.specs.Prelude.{◌≡◌, ◌<◌, ◌^◌};
 ghost use Rattle.layout.specs.Places.{contact_count};
 ghost use Rattle.legacy.specs.Reading.{legacy_contact_at, legacy_contacts_rule, legacy_channel_at, legacy_channels_rule, legacy_file_rule};

@@ -1,12 +1,11 @@
 -- The two editions beside each other (document 02, [10]): the older answers as document 01 does, and what is good under both is the same under both.
-use Prim.Native.Nat.{ℕ, ◌+◌, ◌*◌, ◌≤◌, ◌<◌}
-use mathlib.Core.Path.{◌≡◌, refl, sym, ◌∙◌, ap}
+use Prim.Native.Nat.{ℕ, ◌≤◌, ◌<◌}
+use mathlib.Core.Path.{◌≡◌, refl, sym, ◌∙◌}
 use mathlib.Core.Bool.{Bool, true, false, ◌||◌, cond, false≢true}
 use mathlib.Core.List.{List}
-use mathlib.Core.Logic.{⊎_elim}
 use native.Mathlib.Omega.{arith}
 use native.Mathlib.Nat.{zero-add, zero-mul}
-use lib.ListN.{length, drop}
+use lib.ListN.{length}
 use lib.Dec.{ltb, eqb}
 use borrow.Author.Tests.{eqb-true}
 use Rattle.m17.specs.declared.Edition.{Edition}
@@ -16,9 +15,8 @@ use Rattle.m17.specs.declared.Address.TheVariants.{Callsign}
 use Rattle.m17.specs.declared.Address.TheVariants as address
 use Rattle.m17.specs.declared.Encoded.{Encoded}
 use Rattle.m17.specs.declared.Encoded.TheVariants.{Number}
-use Rattle.m17.specs.declared.Decoded.{Decoded}
 use Rattle.m17.specs.declared.Decoded.TheVariants.{Text, Broadcast, Refused}
-use Rattle.m17.specs.Address.{broadcast, last_plain, last_of, within, hash_signs, foreign_place, number_of, encoding, is_callsign, address_ok, address_valid, text_up_to, text_for, decoding, decoded_by, decoded_into}
+use Rattle.m17.specs.Address.{broadcast, last_plain, last_of, hash_signs, foreign_place, number_of, encoding, is_callsign, address_ok, address_valid, text_up_to, text_for, decoding, decoded_by, decoded_into}
 use Rattle.m17.specs.Before.{encoding_before, is_callsign_before, address_ok_before, address_valid_before, decoding_before, decoded_by_before, decoded_into_before}
 use Rattle.m17.proofs.Laws.{within_in, callsign-bounds, last-ge, broadcast-no-callsign}
 use Rattle.m17.proofs.OneToOne.{text-plain, text-returns, number-is-callsign, number-returns}

@@ -1,4 +1,6 @@
 // M17 addresses: which numbers are addresses, and what they mean (document 01, "M17 addresses"; document 02, [10]).
+#![tactic(auto)]
+
 ghost use Rattle.std.specs.Prelude.{◌≡◌};
 ghost use Rattle.m17.specs.Edition.{edition_of};
 ghost use Rattle.m17.specs.Address.{address_ok, address_for, address_number, address_valid, is_broadcast, is_callsign, last_of};

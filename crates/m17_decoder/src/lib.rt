@@ -1,4 +1,6 @@
 // An address number to its callsign's text (document 01, "M17 addresses"; document 02, [10]).
+#![tactic(auto)]
+
 mod table; // table.rt: the characters of digits
 
 ghost use Rattle.std.specs.Prelude.{◌≡◌, ◌++◌, ◌-◌, ◌<◌, ◌≤◌, length, drop, replicate};

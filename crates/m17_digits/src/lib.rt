@@ -1,4 +1,6 @@
 // The digits, to base 40, of an M17 address number, by divisions of at most 32 bits (document 02, [9]). Three digits make a group, a number below 64,000 = 40^3.
+#![tactic(auto)]
+
 ghost use Rattle.std.specs.Prelude.{◌≡◌, ◌<◌, ◌/◌, ◌%◌, ◌^◌};
 
 // The three groups of a number, by their place in it.

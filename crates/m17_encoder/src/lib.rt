@@ -1,4 +1,6 @@
 // A callsign's text to its number (document 01, "M17 addresses"; document 02, [10]).
+#![tactic(auto)]
+
 mod table; // table.rt: the digits of characters
 
 ghost use Rattle.std.specs.Prelude.{◌≡◌, cond, ◌+◌, ◌-◌, ◌<◌, ◌≤◌, ltb, length, get_or};

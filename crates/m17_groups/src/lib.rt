@@ -1,4 +1,6 @@
 // The characters of a group, three digits of an address number, written into a buffer.
+#![tactic(auto)]
+
 pub mod table; // table.rt: the characters of digits
 
 ghost use Rattle.std.specs.Prelude.{◌≡◌, ◌+◌, ◌<◌, ◌≤◌, length};

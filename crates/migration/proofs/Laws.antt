@@ -1,12 +1,10 @@
 -- Laws of records migrated in place: one record, and that a valid file holds them all.
 use Prim.Native.Nat.{ℕ, ◌+◌, ◌*◌, ◌≤◌, ◌<◌}
-use mathlib.Core.Path.{◌≡◌, refl, ap, sym, ◌∙◌}
-use mathlib.Core.Bool.{Bool, true, false, cond}
-use mathlib.Core.List.{List, [], ◌∷◌}
+use mathlib.Core.Path.{◌≡◌, refl, sym, ◌∙◌}
+use mathlib.Core.List.{List, ◌∷◌}
 use native.Mathlib.Omega.{arith}
 use lib.ListN.{length, take, get_or, set}
-use lib.Dec.{eqb}
-use borrow.Author.Tests.{eq-eqb, ne_eqb}
+use borrow.Author.Tests.{ne_eqb}
 use Rattle.fields.specs.Bytes.{part, over, AllBytes}
 use Rattle.fields.specs.declared.rule.Validity.{Validity}
 use Rattle.fields.specs.declared.rule.Validity.TheVariants.{Valid, Refused}
@@ -16,7 +14,7 @@ use Rattle.renumber.proofs.Laws.{over-inner, over-self}
 use Rattle.layout.specs.Places.{contact_count, channel_count, contact_place, channel_place, offset_place, banks_place}
 use Rattle.edits.proofs.AcceptedCodeplug.{has-layout}
 use Rattle.legacy.specs.Reading.{legacy_file_rule}
-use Rattle.legacy.specs.Migration.{migrated_byte, migrated_at, migrated_contact, migrated_channel, with_records_at, contacts_migrated, migrated, migrated_by}
+use Rattle.legacy.specs.Migration.{migrated_byte, migrated_at, migrated_contact, migrated_channel, with_records_at, migrated, migrated_by}
 use Rattle.legacy.proofs.RunLaws.{take-changed}
 use Rattle.legacy.proofs.ContactLaws.{contact-keeps}
 use Rattle.legacy.proofs.LayoutLaws.{banks_place-same, channel_place-same, channel_count-same}

@@ -2,13 +2,13 @@
 use Prim.Native.Nat.{ℕ, ◌+◌, ◌-◌, ◌*◌, ◌/◌, ◌%◌, ◌≤◌, ◌<◌}
 use mathlib.Core.Path.{◌≡◌, refl, ap, sym, ◌∙◌}
 use mathlib.Core.Bool.{Bool, true, false}
-use mathlib.Core.List.{List, ◌++◌}
+use mathlib.Core.List.{List}
 use native.Mathlib.Omega.{arith}
-use lib.ListN.{length, take, drop, get_or}
+use lib.ListN.{get_or}
 use lib.Seq.{get_or-take, get_or-drop}
 use lib.Dec.{ltb}
 use borrow.Author.Tests.{lt-ltb, ltb-true, ltb-false}
-use Rattle.fields.specs.Bytes.{part, num, AllBytes}
+use Rattle.fields.specs.Bytes.{part, AllBytes}
 use Rattle.fields.specs.Rule.{◌then◌, unless}
 use Rattle.fields.specs.declared.rule.Validity.{Validity}
 use Rattle.fields.specs.declared.rule.Validity.TheVariants.{Valid, Refused}
@@ -22,11 +22,7 @@ use Rattle.layout.specs.Banks.{bank_place, entry_count}
 use Rattle.file_rule.specs.File.{file_rule}
 use Rattle.validation.specs.Validation.{validated_by, validation}
 use Rattle.codeplug.specs.Read.{header_of, header_answer, header_read, place_rule, contact_read, channel_read, bank_answer, bank_read, entries_answer, entries_read, entry_answer, entry_read}
-use Rattle.journal.specs.EditSystem.{Call}
 use Rattle.codeplug.proofs.Editions.{older-in-newer}
-use Rattle.journal.specs.Promise.{EveryEdit}
-use Rattle.edits.specs.Editing.{editing}
-use Rattle.edits.specs.Demand.{OfBytes}
 use Rattle.edits.proofs.Promised.{editor-promise}
 use Rattle.legacy.specs.Reading.{legacy_file_rule}
 use Rattle.legacy.specs.Migration.{migrated}

@@ -1,4 +1,6 @@
 // A legacy file migrated in place (document 02, [5]): traits and settings in the new order. It is validated first, so a refused file is never touched.
+#![tactic(auto)]
+
 ghost use Rattle.std.specs.Prelude.{◌≡◌, ◌+◌, ◌*◌, ◌<◌, ◌≤◌, length};
 ghost use Rattle.fields.specs.Bytes.{over, part};
 ghost use Rattle.legacy.specs.Reading.{legacy_file_rule};

@@ -1,4 +1,6 @@
 // A codeplug as lists of records, its file, and the twelve edits on it: definitions and their laws; the kinds of edits.
+#![tactic(auto)]
+
 pub mod places; // places.rt: banks of a file by their offsets
 
 ghost use Rattle.std.specs.Prelude.{◌≡◌};

@@ -1,4 +1,6 @@
 // A change of a codeplug's bytes, planned before anything is written.
+#![tactic(auto)]
+
 pub mod numbers; // numbers.rt: numbers as small arrays, and a new bank
 
 use renumber::shift::{Growth, Shift};

@@ -1,4 +1,6 @@
 // A change made in place: indexes or offsets first, then the cuts, then the count.
+#![tactic(auto)]
+
 ghost use Rattle.std.specs.Prelude.{◌≡◌, ◌+◌, ◌≤◌, ◌<◌, ◌^◌, length, take};
 ghost use Rattle.journal.specs.Machine.{holding};
 ghost use Rattle.plan.specs.Plan.{counted, planned};

@@ -1,4 +1,6 @@
 // A change's place and lengths (document 01, "The history"), told before anything is written.
+#![tactic(auto)]
+
 ghost use Rattle.std.specs.Prelude.{◌≡◌, ◌+◌, ◌^◌, ◌<◌, ◌≤◌, length};
 ghost use Rattle.fields.specs.Bytes.{over};
 ghost use Rattle.journal.specs.Change.{entry_of};

@@ -1,4 +1,6 @@
 // How much agrees behind a change that moves offsets. The pieces of the new file are compared from the last one on.
+#![tactic(auto)]
+
 ghost use Rattle.std.specs.Prelude.{◌≡◌, ◌<◌, ◌≤◌, length};
 ghost use Rattle.affixes.specs.Common.{common_suffix};
 ghost use Rattle.plan_suffix.specs.Suffix.{table_end, new_offsets, entries_suffix, table_pieces, bank_suffix};

@@ -1,4 +1,6 @@
 // What both calls validate first: 30, the codeplug's own refusal, 31.
+#![tactic(auto)]
+
 ghost use Rattle.std.specs.Prelude.{◌≡◌};
 ghost use Rattle.journal.specs.Entry.{entries_of};
 ghost use Rattle.journal.specs.Machine.{whole_rule, buffers_rule};

@@ -1,4 +1,6 @@
 // Records of a file that was validated before, without validating it again. It answers for any bytes.
+#![tactic(auto)]
+
 ghost use Rattle.std.specs.Prelude.{◌≡◌};
 ghost use Rattle.codeplug.specs.Prevalidated.{contact_prevalidated_rule, contact_prevalidated, channel_prevalidated_rule, channel_prevalidated, bank_prevalidated_rule, bank_prevalidated, entries_prevalidated};
 ghost use Rattle.codeplug.specs.There.{ContactThere, ChannelThere, BankThere};

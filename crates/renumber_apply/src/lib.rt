@@ -1,4 +1,6 @@
 // Indexes and offsets moved in place.
+#![tactic(auto)]
+
 ghost use Rattle.std.specs.Prelude.{◌≡◌, ◌+◌, ◌*◌, ◌<◌, ◌≤◌, ◌^◌, length, map};
 ghost use Rattle.fields.specs.Bytes.{over, part, num, little_bytes};
 ghost use Rattle.layout.specs.Banks.{bank_from};

@@ -1,4 +1,6 @@
 // The last index that a renumbering changes. What stands behind it stays as it is, so no byte of it has to be compared.
+#![tactic(auto)]
+
 ghost use Rattle.std.specs.Prelude.{◌≡◌, ◌+◌, ◌*◌, ◌<◌, ◌≤◌, ◌^◌, length, map};
 ghost use Rattle.fields.specs.Bytes.{over, part, num, little_bytes};
 ghost use Rattle.layout.specs.Banks.{bank_from};

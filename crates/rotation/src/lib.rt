@@ -1,4 +1,6 @@
 // Bytes of a buffer reversed or rotated, and blocks of two buffers swapped: moves that can be taken back.
+#![tactic(auto)]
+
 ghost use Rattle.std.specs.Prelude.{◌≡◌, ◌+◌, ◌≤◌, length};
 ghost use Rattle.fields.specs.Bytes.{over, part};
 ghost use Rattle.rotation.specs.Rotation.{reversed, rotated};

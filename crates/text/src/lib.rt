@@ -1,4 +1,6 @@
 // Text fields (document 01, "The file"): bytes 0x20 to 0x7E, then zeros.
+#![tactic(auto)]
+
 ghost use Rattle.std.specs.Prelude.{◌≡◌, true, ◌+◌, ◌<◌, ◌≤◌, ◌^◌, length};
 ghost use Rattle.fields.specs.Bytes.{part};
 ghost use Rattle.text.specs.Text.{text_ok, text_of, given_ok, plain_text};

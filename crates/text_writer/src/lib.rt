@@ -1,4 +1,6 @@
 // A text to its field of 32 bytes: 25, then the text; a refusal changes nothing.
+#![tactic(auto)]
+
 ghost use Rattle.std.specs.Prelude.{◌≡◌, true, length};
 ghost use Rattle.text.specs.Text.{given_ok, padded};
 ghost use Rattle.text_writer.specs.Field.{text_write_rule, text_written};

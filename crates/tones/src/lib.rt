@@ -1,4 +1,6 @@
 // CTCSS tones: the tone byte, and the table of 50 tones (document 01, "The file"; source 000).
+#![tactic(auto)]
+
 ghost use Rattle.std.specs.Prelude.{◌≡◌, true, ◌+◌, ◌<◌};
 ghost use Rattle.tones.specs.Tone.{tone_ok, tone_of, tone_byte, tone_valid, tone_index, tone_enabled, tone_from, frequency_of, index_of};
 

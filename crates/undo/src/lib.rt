@@ -1,4 +1,6 @@
 // The last edit taken back.
+#![tactic(auto)]
+
 mod revert; // revert.rt: an entry's bytes put back, validated, and taken out again where the result is refused
 
 ghost use Rattle.std.specs.Prelude.{◌≡◌, ◌+◌, ◌-◌, ◌≤◌, length};

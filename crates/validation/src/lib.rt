@@ -1,5 +1,7 @@
 // Validation of the whole codeplug file (document 01, "The file", "The refusals, by number"): 1 first, then fields in file order, the first bad
 // one answering.
+#![tactic(auto)]
+
 ghost use Rattle.std.specs.Prelude.{◌≡◌};
 ghost use Rattle.file_rule.specs.File.{file_rule};
 ghost use Rattle.validation.specs.Validation.{validation};

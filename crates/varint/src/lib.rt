@@ -1,4 +1,6 @@
 // Numbers in groups of seven bits, low group first, top bit set on all but the last, shortest form only, at most 1,048,576.
+#![tactic(auto)]
+
 ghost use Rattle.std.specs.Prelude.{◌≡◌, ◌+◌, ◌≤◌, length, drop};
 ghost use Rattle.fields.specs.Bytes.{over};
 ghost use Rattle.varint.specs.Number.{number_bytes, number_at};

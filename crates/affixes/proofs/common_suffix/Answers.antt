@@ -1,8 +1,4 @@
-use borrow.Author.Rules.{rules}
 use native.Mathlib.Omega.{arith}
-use Prim.Native.Nat.{◌-◌}
-use lib.ListN.{length}
-use Rattle.affixes.specs.Scan.{SuffixTo}
 use mathlib.Core.Logic.{inl, inr}
 use Rattle.affixes.proofs.Laws.{end-byte, end-end, end-stop}
 use Rattle.affixes.proofs.common_suffix.Goals as goal

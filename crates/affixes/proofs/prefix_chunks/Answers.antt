@@ -1,8 +1,4 @@
 use native.Mathlib.Omega.{arith}
-use Prim.Native.Nat.{◌-◌}
-use lib.ListN.{length}
-use Rattle.affixes.specs.Scan.{PrefixTo}
-use borrow.Author.Tests.{not-false}
 use Rattle.affixes.proofs.Laws.{start_none, start-more}
 use Rattle.affixes.proofs.prefix_chunks.Goals as goal
 

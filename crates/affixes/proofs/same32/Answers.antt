@@ -1,7 +1,5 @@
 use native.Mathlib.Omega.{arith}
-use Prim.Native.Nat.{◌-◌, ◌≤◌}
-use mathlib.Core.Path.{◌≡◌, refl}
-use Rattle.fields.specs.Bytes.{part}
+use mathlib.Core.Path.{refl}
 use Rattle.affixes.proofs.Laws.{same_more, same-all}
 use Rattle.affixes.proofs.same32.Goals as goal
 

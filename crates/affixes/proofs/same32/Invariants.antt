@@ -1,9 +1,7 @@
 -- The invariant: where no bit differs so far, the first k bytes agree.
-use native.Mathlib.Omega.{arith}
 use Prim.Native.Nat.{◌-◌, ◌≤◌}
-use mathlib.Core.Path.{◌≡◌, refl}
+use mathlib.Core.Path.{◌≡◌}
 use Rattle.fields.specs.Bytes.{part}
-use Rattle.affixes.proofs.Laws.{same_more, same-all}
 use Rattle.affixes.proofs.same32.Given as goal
 
 abbrev pub invariant-loop-k : goal.invariant-loop-k

@@ -1,8 +1,4 @@
 use native.Mathlib.Omega.{arith}
-use Prim.Native.Nat.{◌-◌}
-use lib.ListN.{length}
-use Rattle.affixes.specs.Scan.{SuffixTo}
-use borrow.Author.Tests.{not-false}
 use Rattle.affixes.proofs.Laws.{end_none, end_more}
 use Rattle.affixes.proofs.suffix_chunks.Goals as goal
 

@@ -1,10 +1,7 @@
 -- The invariant: i bytes agree, and what is common before them is what the rests have in common.
-use native.Mathlib.Omega.{arith}
 use Prim.Native.Nat.{◌-◌}
 use lib.ListN.{length}
 use Rattle.affixes.specs.Scan.{SuffixTo}
-use borrow.Author.Tests.{not-false}
-use Rattle.affixes.proofs.Laws.{end_none, end_more}
 use Rattle.affixes.proofs.suffix_chunks.Given as goal
 
 abbrev pub invariant-loop-i : goal.invariant-loop-i

@@ -6,7 +6,6 @@ use mir.Syntax.{w8}
 use mir.ValLaws.{to_z_pos, to_z-of_z}
 use Rattle.bits.proofs.Laws.{signed_of-low, signed_of-high, minus_one}
 use native.Mathlib.Omega.{arith}
-use borrow.Author.Rules.{rules}
 use Rattle.bits.proofs.signed_of.Goals as goal
 
 pub overflow_sub-result-else-b-lt128 : goal.overflow_sub-result-else-b-lt128

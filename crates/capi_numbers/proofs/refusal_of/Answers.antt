@@ -1,5 +1,4 @@
 -- By the kind of validity.
-use borrow.Author.Rules.{rules}
 use Rattle.capi_numbers.proofs.refusal_of.Goals as goal
 
 pub returns-in-Valid : goal.returns-in-Valid

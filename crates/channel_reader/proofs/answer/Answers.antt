@@ -1,6 +1,5 @@
 -- Each validity answers as the definition. `Valid` comes with all 90 bytes.
 use Rattle.channel_reader.specs.Reading.{channel_answer}
-use borrow.Author.Rules.{rules}
 use Rattle.channel_reader.proofs.answer.Goals as goal
 
 pub channel_of-requires : goal.channel_of-requires

@@ -1,6 +1,5 @@
 -- The record's fields are the callees' answers, put in from the last call's on.
 use Rattle.channel_reader.specs.Reading.{common_of}
-use borrow.Author.Rules.{rules}
 use Rattle.channel_reader.proofs.common_of.Goals as goal
 
 pub returns : goal.returns

@@ -2,7 +2,6 @@
 use Rattle.channel_reader.specs.Reading.{info_of}
 use borrow.Author.Tests.{eq-eqb, ne_eqb}
 use native.Mathlib.Omega.{arith}
-use borrow.Author.Rules.{rules}
 use Rattle.channel_reader.proofs.info_of.Goals as goal
 
 pub returns-then-mode-eq-FM : goal.returns-then-mode-eq-FM

@@ -3,7 +3,6 @@
 use mir.Syntax.{w8}
 use mir.ValLaws.{to_z-of_z}
 use Rattle.channel_reader.specs.Reading.{location_of}
-use borrow.Author.Rules.{rules}
 use Rattle.channel_reader.proofs.location_of.Goals as goal
 
 pub returns : goal.returns

@@ -1,6 +1,5 @@
 -- The record's fields are the callees' answers, put in from the last call's on.
 use Rattle.channel_reader.specs.Reading.{m17_of}
-use borrow.Author.Rules.{rules}
 use Rattle.channel_reader.proofs.m17_of.Goals as goal
 
 pub returns : goal.returns

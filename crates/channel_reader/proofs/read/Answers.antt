@@ -2,7 +2,6 @@
 use mathlib.Core.Bool.{true}
 use mathlib.Core.Path.{sym, ◌∙◌}
 use Rattle.channel.proofs.Laws.{valid-length}
-use borrow.Author.Rules.{rules}
 use Rattle.channel_reader.proofs.read.Goals as goal
 
 pub answer-requires : goal.answer-requires

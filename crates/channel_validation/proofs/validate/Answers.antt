@@ -1,5 +1,4 @@
 -- The byte's rule is the one of document 02, [5].
-use borrow.Author.Rules.{rules}
 use Rattle.channel.specs.Rule.{channel_rule, head_rule}
 use Rattle.channel_validation.proofs.validate.Goals as goal
 

@@ -1,5 +1,4 @@
 -- The code is the definition's chain, field by field: every call's answer is put in, the last call's first.
-use borrow.Author.Rules.{rules}
 use Rattle.channel_validation.proofs.validate_by.Goals as goal
 
 pub returns : goal.returns

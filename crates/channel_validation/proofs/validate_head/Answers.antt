@@ -1,6 +1,5 @@
 -- The code is the definition's chain, field by field: every call's answer is put in, the last call's first.
 use Rattle.channel.specs.Values.{mode_ok}
-use borrow.Author.Rules.{rules}
 use Rattle.channel_validation.proofs.validate_head.Goals as goal
 
 pub returns : goal.returns

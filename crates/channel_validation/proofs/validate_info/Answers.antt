@@ -2,7 +2,6 @@
 use Rattle.channel.specs.Rule.{info_rule}
 use borrow.Author.Tests.{eq-eqb, ne_eqb}
 use native.Mathlib.Omega.{arith}
-use borrow.Author.Rules.{rules}
 use Rattle.channel_validation.proofs.validate_info.Goals as goal
 
 pub returns-then-mode-eq-FM : goal.returns-then-mode-eq-FM

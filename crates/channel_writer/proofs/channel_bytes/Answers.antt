@@ -1,7 +1,6 @@
 -- `channel_bytes`: each part stands where the one before it ends, or where its padding does, over zeros.
 use mathlib.Core.Path.{refl}
 use native.Mathlib.Omega.{arith}
-use borrow.Author.Rules.{rules}
 use Rattle.fields.specs.Bytes.{zeros}
 use Rattle.text.proofs.Laws.{given_ok-length}
 use Rattle.channel_writer.proofs.WriteLaws.{writable-by, record-front, record-whole, front_length, front-drop}

@@ -1,5 +1,4 @@
 -- `mode_number`: by the kind of info.
-use borrow.Author.Rules.{rules}
 use Rattle.channel.specs.Values.{mode_number}
 use Rattle.channel_writer.proofs.mode_number.Goals as goal
 

@@ -1,7 +1,6 @@
 -- `put_dmr`: the fields over zeros, of which the last stays as the pad.
 use mathlib.Core.Path.{refl, ◌∙◌}
 use native.Mathlib.Omega.{arith}
-use borrow.Author.Rules.{rules}
 use Rattle.fields.specs.Bytes.{zeros, little_bytes}
 use Rattle.fields.proofs.Laws.{long-byte, long-little}
 use Rattle.channel_writer.specs.Writing.{info_bytes}

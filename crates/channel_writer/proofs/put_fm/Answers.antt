@@ -1,7 +1,6 @@
 -- `put_fm`: two tones over zeros, which stay in the three pads.
 use mathlib.Core.Path.{refl, ◌∙◌}
 use native.Mathlib.Omega.{arith}
-use borrow.Author.Rules.{rules}
 use Rattle.fields.specs.Bytes.{zeros}
 use Rattle.fields.proofs.Laws.{long-byte}
 use Rattle.channel_writer.specs.Writing.{info_bytes}

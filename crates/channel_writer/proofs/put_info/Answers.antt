@@ -1,6 +1,5 @@
 -- `put_info`: by the kind of info.
 use mathlib.Core.Path.{◌∙◌}
-use borrow.Author.Rules.{rules}
 use Rattle.channel_writer.proofs.put_info.Goals as goal
 
 pub put_fm-requires : goal.put_fm-requires

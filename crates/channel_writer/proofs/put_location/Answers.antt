@@ -1,7 +1,6 @@
 -- `put_location`: the fields lie side by side from place 77 on.
 use mathlib.Core.Path.{◌∙◌}
 use native.Mathlib.Omega.{arith}
-use borrow.Author.Rules.{rules}
 use Rattle.fields.specs.Bytes.{little_bytes}
 use Rattle.fields.proofs.Laws.{long-byte, long-little}
 use Rattle.channel_writer.specs.Writing.{location_bytes}

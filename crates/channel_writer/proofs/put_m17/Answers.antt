@@ -1,7 +1,6 @@
 -- `put_m17`: the fields over all five zeros.
 use mathlib.Core.Path.{refl, ◌∙◌}
 use native.Mathlib.Omega.{arith}
-use borrow.Author.Rules.{rules}
 use Rattle.fields.specs.Bytes.{zeros, little_bytes}
 use Rattle.fields.proofs.Laws.{long-byte, long-little}
 use Rattle.channel_writer.specs.Writing.{info_bytes}

@@ -1,5 +1,4 @@
 -- `given`: each test in its place.
-use borrow.Author.Rules.{rules}
 use Rattle.channel_writer.specs.Writing.{channel_write_rule}
 use Rattle.channel_writer.proofs.validate.Goals as goal
 

@@ -1,5 +1,4 @@
 -- `validate_fm`: each test in its place.
-use borrow.Author.Rules.{rules}
 use Rattle.channel_writer.specs.Writing.{info_write_rule}
 use Rattle.channel_writer.proofs.validate_fm.Goals as goal
 

@@ -1,5 +1,4 @@
 -- `validate_head`: each test in its place.
-use borrow.Author.Rules.{rules}
 use Rattle.channel_writer.specs.Writing.{head_write_rule}
 use Rattle.channel_writer.proofs.validate_head.Goals as goal
 

@@ -1,6 +1,5 @@
 -- `validate_info`: by the kind of info.
 use mathlib.Core.Path.{◌∙◌}
-use borrow.Author.Rules.{rules}
 use Rattle.channel_writer.proofs.validate_info.Goals as goal
 
 pub returns-in-Fm : goal.returns-in-Fm

@@ -1,5 +1,4 @@
 -- `validate_location`: each test in its place; the floor is validated by its byte, which reads back as the floor.
-use borrow.Author.Rules.{rules}
 use Rattle.channel_writer.specs.Writing.{location_write_rule}
 use Rattle.channel_writer.proofs.WriteLaws.{i8-passed, i8-byte}
 use Rattle.channel_writer.proofs.validate_location.Goals as goal

@@ -1,5 +1,4 @@
 -- `write`: what is valid is written over the beginning of the buffer; a refusal leaves it.
-use borrow.Author.Rules.{rules}
 use Rattle.channel_writer.proofs.WriteLaws.{write-rule, write-room, write-valid, write-refused}
 use Rattle.channel_writer.proofs.write.Goals as goal
 

@@ -1,5 +1,4 @@
 -- The validity chooses what stands beside it.
-use borrow.Author.Rules.{rules}
 use Rattle.contact.specs.Contact.{contact_answer}
 use Rattle.contact_reader.proofs.answer.Goals as goal
 

@@ -1,5 +1,4 @@
 -- The name and the info.
-use borrow.Author.Rules.{rules}
 use Rattle.contact.specs.Contact.{contact_of}
 use Rattle.contact_reader.proofs.contact_of.Goals as goal
 

@@ -2,7 +2,6 @@
 use mathlib.Core.Path.{◌≡◌}
 use native.Mathlib.Omega.{arith}
 use borrow.Author.Tests.{ne_eqb}
-use borrow.Author.Rules.{rules}
 use lib.ListN.{get_or}
 use Rattle.contact.specs.Contact.{info_of}
 use Rattle.contact_reader.proofs.info_of.Goals as goal

@@ -1,6 +1,5 @@
 -- What validation answers; `Valid` comes with 39 bytes.
 use mathlib.Core.Path.{sym, ◌∙◌}
-use borrow.Author.Rules.{rules}
 use Rattle.contact.proofs.RoundTrip.{valid-length}
 use Rattle.contact_reader.proofs.read.Goals as goal
 

@@ -1,5 +1,4 @@
 -- The byte's rule is the one of document 02, [5].
-use borrow.Author.Rules.{rules}
 use Rattle.contact.specs.Contact.{contact_rule, dmr_rule}
 use Rattle.contact_validation.proofs.validate.Goals as goal
 

@@ -1,5 +1,4 @@
 -- The name, the mode and the info in order.
-use borrow.Author.Rules.{rules}
 use Rattle.contact_validation.proofs.validate_by.Goals as goal
 
 pub returns : goal.returns

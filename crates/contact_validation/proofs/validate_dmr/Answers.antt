@@ -1,5 +1,4 @@
 -- The three fields in order.
-use borrow.Author.Rules.{rules}
 use Rattle.contact_validation.proofs.validate_dmr.Goals as goal
 
 pub returns : goal.returns

@@ -1,7 +1,6 @@
 -- The mode chooses the rule.
 use native.Mathlib.Omega.{arith}
 use borrow.Author.Tests.{eq-eqb, ne_eqb}
-use borrow.Author.Rules.{rules}
 use Rattle.contact_validation.proofs.validate_info.Goals as goal
 
 pub returns-then-mode-eq-DMR : goal.returns-then-mode-eq-DMR

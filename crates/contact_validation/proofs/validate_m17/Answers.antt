@@ -1,7 +1,6 @@
 -- A record with fewer than 39 bytes is cut in the address; otherwise its number is validated.
 use mathlib.Core.Path.{sym}
 use native.Mathlib.Omega.{arith}
-use borrow.Author.Rules.{rules}
 use lib.ListN.{length}
 use Rattle.contact.specs.Contact.{m17_rule}
 use Rattle.fields.proofs.Laws.{field_cut}

@@ -1,6 +1,5 @@
 -- The name over zeros, then the info behind it.
 use native.Mathlib.Omega.{arith}
-use borrow.Author.Rules.{rules}
 use Rattle.fields.specs.Bytes.{zeros}
 use Rattle.contact.specs.Contact.{contact_bytes}
 use Rattle.text.proofs.Laws.{given_ok-length}

@@ -1,7 +1,6 @@
 -- The bytes lie side by side behind the name; the pad is the zero that was there.
 use mathlib.Core.Path.{◌∙◌}
 use native.Mathlib.Omega.{arith}
-use borrow.Author.Rules.{rules}
 use Rattle.m17.proofs.Laws.{address_number-lt}
 use Rattle.contact.proofs.Laws.{m17-writable, dmr-writable, put-m17, put-dmr}
 use Rattle.contact_writer.proofs.put_info.Goals as goal

@@ -1,5 +1,4 @@
 -- The buffer, the name and the info in order.
-use borrow.Author.Rules.{rules}
 use Rattle.contact.specs.Contact.{contact_write_rule}
 use Rattle.contact_writer.proofs.validate.Goals as goal
 

@@ -1,5 +1,4 @@
 -- The kind of info chooses the test.
-use borrow.Author.Rules.{rules}
 use Rattle.contact.specs.Contact.{info_write_rule}
 use Rattle.contact_writer.proofs.validate_info.Goals as goal
 

@@ -1,7 +1,6 @@
 -- `Valid` comes with room for the record; a refused one leaves the buffer.
 use mathlib.Core.Path.{sym, ◌∙◌, ap}
 use native.Mathlib.Omega.{arith}
-use borrow.Author.Rules.{rules}
 use lib.ListN.{length}
 use Rattle.contact.specs.Contact.{contact_written}
 use Rattle.fields.proofs.Laws.{written-valid, written-refused}

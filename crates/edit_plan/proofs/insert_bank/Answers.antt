@@ -2,11 +2,9 @@
 use Prim.Native.Nat.{◌^◌, ◌≤◌, ◌<◌}
 use lib.ListN.{length}
 use Rattle.layout.specs.Places.{bank_count}
-use Rattle.fields.proofs.Laws.{AllBytes}
 use Rattle.model.proofs.PlaceLaws.{bank-behind}
 use Rattle.edit_plan.proofs.PlanLaws.{insert-bank-there, insert-bank}
 use native.Mathlib.Omega.{arith}
-use borrow.Author.Rules.{rules}
 use Rattle.edit_plan.proofs.insert_bank.Goals as goal
 use Rattle.edit_plan.proofs.insert_bank.Goals.{After-shared_slice_known-1}
 

@@ -1,10 +1,8 @@
 -- The count may grow, so the new one fits.
 use Prim.Native.Nat.{◌≤◌, ◌<◌}
 use Rattle.layout.specs.Places.{channel_count}
-use Rattle.fields.proofs.Laws.{AllBytes}
 use Rattle.edit_plan.proofs.PlanLaws.{insert-channel-there, insert-channel}
 use native.Mathlib.Omega.{arith}
-use borrow.Author.Rules.{rules}
 use Rattle.edit_plan.proofs.insert_channel.Goals as goal
 use Rattle.edit_plan.proofs.insert_channel.Goals.{After-shared_slice_known-1}
 

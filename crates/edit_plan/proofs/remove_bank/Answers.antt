@@ -2,10 +2,8 @@
 use Prim.Native.Nat.{◌^◌, ◌<◌}
 use lib.ListN.{length}
 use Rattle.layout.specs.Places.{bank_count}
-use Rattle.fields.proofs.Laws.{AllBytes}
 use Rattle.edit_plan.proofs.PlanLaws.{remove-bank-there, remove-bank}
 use native.Mathlib.Omega.{arith}
-use borrow.Author.Rules.{rules}
 use Rattle.edit_plan.proofs.remove_bank.Goals as goal
 use Rattle.edit_plan.proofs.remove_bank.Goals.{After-shared_slice_known-1}
 

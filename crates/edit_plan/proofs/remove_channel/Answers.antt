@@ -1,10 +1,8 @@
 -- There is a channel, so the count is not zero.
 use Prim.Native.Nat.{◌<◌}
 use Rattle.layout.specs.Places.{channel_count}
-use Rattle.fields.proofs.Laws.{AllBytes}
 use Rattle.edit_plan.proofs.PlanLaws.{remove-channel-there, remove-channel}
 use native.Mathlib.Omega.{arith}
-use borrow.Author.Rules.{rules}
 use Rattle.edit_plan.proofs.remove_channel.Goals as goal
 use Rattle.edit_plan.proofs.remove_channel.Goals.{After-shared_slice_known-1}
 

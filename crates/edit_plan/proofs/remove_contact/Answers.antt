@@ -1,10 +1,8 @@
 -- There is a contact, so the count is not zero.
 use Prim.Native.Nat.{◌<◌}
 use Rattle.layout.specs.Places.{contact_count}
-use Rattle.fields.proofs.Laws.{AllBytes}
 use Rattle.edit_plan.proofs.PlanLaws.{remove-contact-there, remove-contact}
 use native.Mathlib.Omega.{arith}
-use borrow.Author.Rules.{rules}
 use Rattle.edit_plan.proofs.remove_contact.Goals as goal
 use Rattle.edit_plan.proofs.remove_contact.Goals.{After-shared_slice_known-1}
 

@@ -4,11 +4,9 @@ use mathlib.Core.Path.{◌≡◌, refl, ◌∙◌}
 use lib.ListN.{length}
 use Rattle.layout.specs.Places.{bank_count}
 use Rattle.layout.specs.Banks.{entry_count, bank_place}
-use Rattle.fields.proofs.Laws.{AllBytes}
 use Rattle.layout.proofs.Laws.{bank_count-lt}
 use Rattle.edit_plan.proofs.PlanLaws.{remove-entry-there, remove_entry}
 use native.Mathlib.Omega.{arith}
-use borrow.Author.Rules.{rules}
 use Rattle.edit_plan.proofs.remove_entry.Goals as goal
 use Rattle.edit_plan.proofs.remove_entry.Goals.{After-entry_count, After-shared_slice_known-1}
 

@@ -1,7 +1,6 @@
 -- The bank is there.
 use Prim.Native.Nat.{◌<◌}
 use Rattle.layout.specs.Places.{bank_count}
-use Rattle.fields.proofs.Laws.{AllBytes}
 use Rattle.edit_plan.proofs.PlanLaws.{rename-bank-there, rename-bank}
 use native.Mathlib.Omega.{arith}
 use Rattle.edit_plan.proofs.rename_bank.Goals as goal

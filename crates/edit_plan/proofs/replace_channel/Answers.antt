@@ -1,7 +1,6 @@
 -- The channel is there.
 use Prim.Native.Nat.{◌<◌}
 use Rattle.layout.specs.Places.{channel_count}
-use Rattle.fields.proofs.Laws.{AllBytes}
 use Rattle.edit_plan.proofs.PlanLaws.{replace-channel-there, replace-channel}
 use native.Mathlib.Omega.{arith}
 use Rattle.edit_plan.proofs.replace_channel.Goals as goal

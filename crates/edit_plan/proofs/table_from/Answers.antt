@@ -1,5 +1,4 @@
 -- The table as the callees tell it.
-use borrow.Author.Rules.{rules}
 use Rattle.edit_plan.proofs.table_from.Goals as goal
 
 pub returns : goal.returns

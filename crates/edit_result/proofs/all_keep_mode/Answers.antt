@@ -1,11 +1,7 @@
-use Rattle.layout.specs.Places.{channel_count, channel_place}
 use Rattle.edits.specs.ResultValidity.{keeps_mode}
 use Rattle.fields.proofs.Laws.{each_next, each-bad, each-done}
-use Rattle.fields.specs.Rule.{each}
-use Prim.Native.Nat.{◌+◌, ◌*◌, ◌-◌, ◌≤◌}
-use mathlib.Core.Path.{◌≡◌}
+use Prim.Native.Nat.{◌-◌}
 use native.Mathlib.Nat.{sub-zero}
-use borrow.Author.Rules.{rules}
 use native.Mathlib.Omega.{arith}
 use Rattle.edit_result.proofs.all_keep_mode.Goals as goal
 

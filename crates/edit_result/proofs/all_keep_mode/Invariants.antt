@@ -1,13 +1,9 @@
 -- The invariant: the channels from the n-th on, which stands at p, answer for all.
 use Rattle.layout.specs.Places.{channel_count, channel_place}
 use Rattle.edits.specs.ResultValidity.{keeps_mode}
-use Rattle.fields.proofs.Laws.{each_next, each-bad, each-done}
 use Rattle.fields.specs.Rule.{each}
 use Prim.Native.Nat.{◌+◌, ◌*◌, ◌-◌, ◌≤◌}
 use mathlib.Core.Path.{◌≡◌}
-use native.Mathlib.Nat.{sub-zero}
-use borrow.Author.Rules.{rules}
-use native.Mathlib.Omega.{arith}
 use Rattle.edit_result.proofs.all_keep_mode.Given as goal
 
 abbrev pub invariant-loop-n : goal.invariant-loop-n

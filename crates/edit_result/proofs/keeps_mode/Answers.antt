@@ -1,6 +1,5 @@
 -- By whether the channel names the contact.
 use Rattle.edit_result.proofs.ValidityLaws.{keeps-named, keeps-other}
-use borrow.Author.Rules.{rules}
 use Rattle.edit_result.proofs.keeps_mode.Goals as goal
 
 pub returns-then-is_index : goal.returns-then-is_index

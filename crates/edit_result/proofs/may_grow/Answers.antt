@@ -1,5 +1,4 @@
 -- The length after it against the longest file.
-use borrow.Author.Rules.{rules}
 use Rattle.edit_result.proofs.may_grow.Goals as goal
 
 pub returns : goal.returns

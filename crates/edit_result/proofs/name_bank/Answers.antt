@@ -1,5 +1,4 @@
 -- The name, where it will stand.
-use borrow.Author.Rules.{rules}
 use Rattle.edit_result.proofs.name_bank.Goals as goal
 
 pub returns : goal.returns

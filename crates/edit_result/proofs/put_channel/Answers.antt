@@ -1,5 +1,4 @@
 -- Validation of a channel, with its contact index in the file.
-use borrow.Author.Rules.{rules}
 use Rattle.edit_result.proofs.put_channel.Goals as goal
 
 pub returns : goal.returns

@@ -1,6 +1,5 @@
 -- The index against the channels.
 use Rattle.edit_result.proofs.ValidityLaws.{whole-number}
-use borrow.Author.Rules.{rules}
 use Rattle.edit_result.proofs.put_entry.Goals as goal
 
 pub returns : goal.returns

@@ -1,18 +1,10 @@
 -- Each arm knows its kinds: the rule for them, where the kind's place is there.
-use mathlib.Core.Path.{◌≡◌, refl}
 use mathlib.Core.Logic.{inl, inr}
-use Prim.Native.Nat.{ℕ}
-use mathlib.Core.List.{List, [], ◌∷◌}
 use Rattle.fields.specs.Rule.{◌then◌, unless}
-use Rattle.fields.specs.declared.rule.Validity.TheVariants.{Valid}
-use Rattle.model.specs.declared.Kind.{Kind}
-use Rattle.model.proofs.KindLaws.{one_of}
-use Rattle.edits.specs.ResultValidity.{may_grow, result_rule}
-use Rattle.edit_result.specs.Growth.{growth}
-use Rattle.edit_result.proofs.ValidityLaws.{Asks, asks-as}
+use Rattle.edits.specs.ResultValidity.{may_grow}
+use Rattle.edit_result.proofs.ValidityLaws.{asks-as}
 use native.Mathlib.Nat.{add-zero}
 use native.Mathlib.Omega.{arith}
-use borrow.Author.Rules.{rules}
 use Rattle.edit_result.proofs.record_validity.Goals as goal
 
 pub name_bank-requires : goal.name_bank-requires
@@ -99,6 +91,6 @@ pub returns-in-RemoveContact : goal.returns-in-RemoveContact
 unfolding may_grow unless ◌then◌
 returns-in-RemoveContact c =
     elim c.in-RemoveContact.is [
-      inl e ↦ rw e
-    | inr s ↦ elim s [ inl e ↦ rw e | inr u ↦ elim u [ inl e ↦ rw e | inr e ↦ rw e ] ]
+      | inl e ↦ rw e
+      | inr s ↦ elim s [ inl e ↦ rw e | inr u ↦ elim u [ inl e ↦ rw e | inr e ↦ rw e ] ]
     ]

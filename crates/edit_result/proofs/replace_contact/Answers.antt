@@ -1,7 +1,6 @@
 -- The contact first, then the channels that name it.
 use mathlib.Core.Path.{◌∙◌}
 use Rattle.edit_result.proofs.ValidityLaws.{first-bad, first_rest}
-use borrow.Author.Rules.{rules}
 use Rattle.edit_result.proofs.replace_contact.Goals as goal
 
 pub returns-in-Refused : goal.returns-in-Refused

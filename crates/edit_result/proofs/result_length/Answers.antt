@@ -1,15 +1,7 @@
 -- Each arm knows its kinds; what is taken away is there, since the place is.
-use Prim.Native.Nat.{◌+◌}
-use mathlib.Core.List.{[], ◌∷◌}
-use lib.ListN.{length}
-use Rattle.model.proofs.KindLaws.{alike}
-use Rattle.edits.specs.ResultValidity.{result_length}
 use Rattle.edit_result.proofs.LengthLaws.{bank-fits, channel-fits}
 use Rattle.edit_result.proofs.ValidityLaws.{remove-channel-place, remove-bank-place}
-use Rattle.edit_result.specs.Growth.{growth}
-use native.Mathlib.Nat.{add-zero}
 use native.Mathlib.Omega.{arith}
-use borrow.Author.Rules.{rules}
 use Rattle.edit_result.proofs.result_length.Goals as goal
 
 pub overflow_sub-result-in-RemoveChannel : goal.overflow_sub-result-in-RemoveChannel

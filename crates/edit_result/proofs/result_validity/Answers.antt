@@ -1,5 +1,4 @@
 -- The length first, then the record.
-use borrow.Author.Rules.{rules}
 use Rattle.edit_result.proofs.result_validity.Goals as goal
 
 pub record_validity-requires : goal.record_validity-requires

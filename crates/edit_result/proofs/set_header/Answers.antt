@@ -3,7 +3,6 @@ use mathlib.Core.Path.{ap, ◌∙◌}
 use lib.ListN.{length}
 use Rattle.fields.proofs.Laws.{length_part}
 use native.Mathlib.Omega.{arith}
-use borrow.Author.Rules.{rules}
 use Rattle.edit_result.proofs.set_header.Goals as goal
 
 pub text_ok-requires : goal.text_ok-requires

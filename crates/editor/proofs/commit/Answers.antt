@@ -5,7 +5,6 @@ use lib.ListN.{take, drop}
 use Prim.Native.Nat.{ℕ, ◌+◌, ◌-◌}
 use Rattle.editor.proofs.EditLaws.{Changes, changes, change-made}
 use native.Mathlib.Omega.{arith}
-use borrow.Author.Rules.{rules}
 use Rattle.editor.proofs.commit.Goals as goal
 use Rattle.editor.proofs.commit.Goals.{Start}
 

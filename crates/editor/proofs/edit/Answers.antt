@@ -2,7 +2,6 @@
 use mathlib.Core.Path.{sym, ◌∙◌}
 use Rattle.preconditions.specs.Calls.{state_of, edit_request}
 use Rattle.editor.proofs.EditLaws.{edit-refused, edit-no-kind, edit-known}
-use borrow.Author.Rules.{rules}
 use Rattle.editor.proofs.edit.Goals as goal
 
 pub returns-in-Refused : goal.returns-in-Refused

@@ -5,7 +5,6 @@ use Rattle.plan.specs.Plan.{planned}
 use Rattle.preconditions.proofs.PreconditionLaws.{preconditions-inside}
 use Rattle.editor.proofs.EditLaws.{preconditions-accepted, preconditions-has-layout, preconditions-short, Passes, passes, Planned, plans, changes, known-refused, known-full, known-made}
 use native.Mathlib.Omega.{arith}
-use borrow.Author.Rules.{rules}
 use Rattle.editor.proofs.edit_known.Goals as goal
 use Rattle.editor.proofs.edit_known.Goals.{After-plan_of-plan, In_default}
 

@@ -1,5 +1,4 @@
 -- The two numbers over zeros, computed.
-use borrow.Author.Rules.{rules}
 use Rattle.fields.specs.Bytes.{zeros, over, little_bytes}
 use Rattle.empty_codeplug.specs.Empty.{empty_codeplug}
 use Rattle.empty_codeplug.proofs.header_bytes.Goals as goal

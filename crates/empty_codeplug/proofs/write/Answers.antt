@@ -1,7 +1,6 @@
 -- A valid answer comes with room for the header; a refused one leaves the buffer.
 use mathlib.Core.Path.{sym, ◌∙◌, ap}
 use native.Mathlib.Omega.{arith}
-use borrow.Author.Rules.{rules}
 use borrow.Author.Tests.{leb-true}
 use lib.ListN.{length}
 use Rattle.fields.proofs.Laws.{unless-valid, written-valid, written-refused}

@@ -1,6 +1,5 @@
 -- One field, of the bytes that are lent.
 use Rattle.layout.specs.Banks.{entry_at}
-use borrow.Author.Rules.{rules}
 use Rattle.entry_validation.proofs.entry_at.Goals as goal
 
 pub returns : goal.returns

@@ -1,10 +1,7 @@
 use Rattle.layout.specs.Banks.{entry_at}
 use Rattle.fields.proofs.Laws.{each_next, each-bad, each-done}
-use Rattle.fields.specs.Rule.{each}
-use Prim.Native.Nat.{◌+◌, ◌*◌, ◌-◌, ◌≤◌}
-use mathlib.Core.Path.{◌≡◌}
+use Prim.Native.Nat.{◌-◌}
 use native.Mathlib.Nat.{sub-zero}
-use borrow.Author.Rules.{rules}
 use native.Mathlib.Omega.{arith}
 use Rattle.entry_validation.proofs.find_entry.Goals as goal
 

@@ -1,12 +1,8 @@
 -- The invariant: the entries from the i-th on, which stands at p, answer for all.
 use Rattle.layout.specs.Banks.{entry_at}
-use Rattle.fields.proofs.Laws.{each_next, each-bad, each-done}
 use Rattle.fields.specs.Rule.{each}
 use Prim.Native.Nat.{◌+◌, ◌*◌, ◌-◌, ◌≤◌}
 use mathlib.Core.Path.{◌≡◌}
-use native.Mathlib.Nat.{sub-zero}
-use borrow.Author.Rules.{rules}
-use native.Mathlib.Omega.{arith}
 use Rattle.entry_validation.proofs.find_entry.Given as goal
 
 abbrev pub invariant-loop-i : goal.invariant-loop-i

@@ -1,6 +1,5 @@
 -- Where the test says yes nothing is refused; else the first bad one is looked for.
 use mathlib.Core.Path.{sym}
-use borrow.Author.Rules.{rules}
 use Rattle.entry_validation.proofs.validate_entries.Goals as goal
 
 pub returns-then-entries_valid : goal.returns-then-entries_valid

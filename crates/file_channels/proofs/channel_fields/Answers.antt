@@ -1,5 +1,4 @@
 -- Validation of a channel, of the bytes that are lent.
-use borrow.Author.Rules.{rules}
 use Rattle.file_channels.proofs.channel_fields.Goals as goal
 
 pub returns : goal.returns

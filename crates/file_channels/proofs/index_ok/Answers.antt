@@ -1,6 +1,5 @@
 -- The mode and the contact index of the channel.
 use Rattle.file_rule.specs.File.{index_ok}
-use borrow.Author.Rules.{rules}
 use Rattle.file_channels.proofs.index_ok.Goals as goal
 
 pub returns : goal.returns

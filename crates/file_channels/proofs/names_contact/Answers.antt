@@ -2,7 +2,6 @@
 use Rattle.file_rule.specs.File.{names_contact}
 use Rattle.file_rule.proofs.FileLaws.{names-mode, names-none}
 use native.Mathlib.Omega.{arith}
-use borrow.Author.Rules.{rules}
 use Rattle.file_channels.proofs.names_contact.Goals as goal
 
 pub returns-in-Nobody : goal.returns-in-Nobody

@@ -1,7 +1,6 @@
 -- Where the test says yes nothing is refused; else the fields answer.
 use mathlib.Core.Path.{sym, ◌∙◌}
 use Rattle.fields.proofs.Laws.{valid-by-test}
-use borrow.Author.Rules.{rules}
 use Rattle.file_contacts.proofs.contact_at.Goals as goal
 
 pub returns-then-contact_valid : goal.returns-then-contact_valid

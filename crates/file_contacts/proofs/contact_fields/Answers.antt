@@ -1,5 +1,4 @@
 -- Validation of a contact, of the bytes that are lent.
-use borrow.Author.Rules.{rules}
 use Rattle.file_contacts.proofs.contact_fields.Goals as goal
 
 pub returns : goal.returns

@@ -1,13 +1,8 @@
 -- The invariant: the contacts from the i-th on, which stands at p, answer for all.
 use Rattle.file_rule.specs.File.{contact_at, contacts_rule}
-use Rattle.layout.specs.Places.{contact_place}
-use Rattle.fields.proofs.Laws.{each_next, each-bad, each-done}
 use Rattle.fields.specs.Rule.{each}
 use Prim.Native.Nat.{◌+◌, ◌*◌, ◌-◌, ◌≤◌}
 use mathlib.Core.Path.{◌≡◌}
-use native.Mathlib.Nat.{sub-zero}
-use borrow.Author.Rules.{rules}
-use native.Mathlib.Omega.{arith}
 use Rattle.file_contacts.proofs.find_contact.Given as goal
 
 abbrev pub invariant-loop-i : goal.invariant-loop-i

@@ -3,8 +3,6 @@ use mathlib.Core.Path.{sym}
 use Rattle.fields.proofs.Laws.{valid-by-test}
 use Rattle.legacy.specs.Reading.{legacy_channel_rule, legacy_channel_at}
 use Rattle.legacy_validation.proofs.IndexLaws.{index-by-bytes}
-use native.Mathlib.Omega.{arith}
-use borrow.Author.Rules.{rules}
 use Rattle.legacy_validation.proofs.channel_at.Goals as goal
 
 pub returns-then-is_valid_by : goal.returns-then-is_valid_by

@@ -2,7 +2,6 @@
 use mathlib.Core.Path.{sym}
 use Rattle.fields.proofs.Laws.{valid-by-test}
 use Rattle.legacy.specs.Reading.{legacy_contact_rule, legacy_contact_at}
-use borrow.Author.Rules.{rules}
 use Rattle.legacy_validation.proofs.contact_at.Goals as goal
 
 pub returns-then-is_valid_by : goal.returns-then-is_valid_by

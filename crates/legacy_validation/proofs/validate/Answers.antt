@@ -1,7 +1,6 @@
 -- The validity chooses the answer.
 use Rattle.validation.specs.Validation.{validated_by}
 use Rattle.legacy_validation.specs.Validation.{legacy_validation}
-use borrow.Author.Rules.{rules}
 use Rattle.legacy_validation.proofs.validate.Goals as goal
 
 pub returns-in-Valid : goal.returns-in-Valid

@@ -1,10 +1,7 @@
 use Rattle.legacy.specs.Reading.{legacy_channel_at, legacy_channels_rule}
 use Rattle.fields.proofs.Laws.{each_next, each-bad, each-done}
-use Rattle.fields.specs.Rule.{each}
-use Prim.Native.Nat.{◌+◌, ◌*◌, ◌-◌, ◌≤◌}
-use mathlib.Core.Path.{◌≡◌}
+use Prim.Native.Nat.{◌-◌}
 use native.Mathlib.Nat.{sub-zero}
-use borrow.Author.Rules.{rules}
 use native.Mathlib.Omega.{arith}
 use Rattle.legacy_validation.proofs.validate_channels.Goals as goal
 

@@ -1,11 +1,8 @@
 use Rattle.legacy.specs.Reading.{legacy_contact_at, legacy_contacts_rule}
 use Rattle.layout.specs.Places.{contact_place}
 use Rattle.fields.proofs.Laws.{each_next, each-bad, each-done}
-use Rattle.fields.specs.Rule.{each}
-use Prim.Native.Nat.{◌+◌, ◌*◌, ◌-◌, ◌≤◌}
-use mathlib.Core.Path.{◌≡◌}
+use Prim.Native.Nat.{◌-◌}
 use native.Mathlib.Nat.{sub-zero}
-use borrow.Author.Rules.{rules}
 use native.Mathlib.Omega.{arith}
 use Rattle.legacy_validation.proofs.validate_contacts.Goals as goal
 

@@ -4,7 +4,6 @@ use borrow.Author.Tests.{le-leb, lt-leb}
 use Rattle.fields.specs.Rule.{◌then◌, unless}
 use Rattle.legacy.specs.Reading.{legacy_file_rule}
 use native.Mathlib.Omega.{arith}
-use borrow.Author.Rules.{rules}
 use Rattle.legacy_validation.proofs.validity_of.Goals as goal
 
 pub returns-then-f-gt-FILE_MAX : goal.returns-then-f-gt-FILE_MAX

@@ -1,6 +1,5 @@
 -- Each variant's number is the definition's.
 use Rattle.m17.specs.Address.{address_number}
-use borrow.Author.Rules.{rules}
 use Rattle.m17.proofs.address_number.Goals as goal
 
 pub returns-in-Callsign : goal.returns-in-Callsign

@@ -1,6 +1,5 @@
 -- A callsign's number, or broadcast's.
 use Rattle.m17.specs.Address.{address_ok}
-use borrow.Author.Rules.{rules}
 use Rattle.m17.proofs.address_ok.Goals as goal
 
 pub returns-then-is_callsign : goal.returns-then-is_callsign

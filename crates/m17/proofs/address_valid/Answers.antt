@@ -1,6 +1,5 @@
 -- Each variant answers as the definition.
 use Rattle.m17.specs.Address.{address_valid}
-use borrow.Author.Rules.{rules}
 use Rattle.m17.proofs.address_valid.Goals as goal
 
 pub returns-in-Callsign : goal.returns-in-Callsign

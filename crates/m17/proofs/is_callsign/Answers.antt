@@ -1,6 +1,5 @@
 -- Both bounds are the definition's.
 use borrow.Author.Tests.{le-leb, lt-leb}
-use borrow.Author.Rules.{rules}
 use Rattle.m17.specs.Address.{is_callsign, within}
 use Rattle.m17.proofs.is_callsign.Goals as goal
 

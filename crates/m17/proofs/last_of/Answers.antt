@@ -1,5 +1,4 @@
 -- Each edition's last number is the definition's.
-use borrow.Author.Rules.{rules}
 use Rattle.m17.proofs.last_of.Goals as goal
 
 pub returns-in-Older : goal.returns-in-Older

@@ -1,6 +1,5 @@
 -- A text with no hash sign is all to write; of one with a hash sign, the text behind it.
 use Rattle.m17_decoder.proofs.WriteLaws.{begun-plain, begun-hash}
-use borrow.Author.Rules.{rules}
 use Rattle.m17_decoder.proofs.begin.Goals as goal
 
 pub returns-then-n-le-LAST_PLAIN : goal.returns-then-n-le-LAST_PLAIN

@@ -1,6 +1,5 @@
 -- The table's rule, at the digit.
 use native.Mathlib.Nat.{zero-add}
-use borrow.Author.Rules.{rules}
 use Rattle.m17_decoder.proofs.character.Goals as goal
 
 pub returns : goal.returns

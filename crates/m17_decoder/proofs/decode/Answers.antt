@@ -2,7 +2,6 @@
 use mathlib.Core.Path.{sym, ◌∙◌}
 use Rattle.m17.proofs.Laws.{decoding-short, decoding-broadcast, decoding-invalid}
 use Rattle.m17_decoder.proofs.WriteLaws.{decoding-written}
-use borrow.Author.Rules.{rules}
 use Rattle.m17_decoder.proofs.decode.Goals as goal
 
 pub returns-then-out-lt9 : goal.returns-then-out-lt9

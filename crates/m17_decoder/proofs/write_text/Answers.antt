@@ -1,6 +1,5 @@
 use Prim.Native.Nat.{◌-◌}
 use mathlib.Core.Path.{◌∙◌}
-use Rattle.m17_decoder.specs.Begin.{Begun}
 use Rattle.m17_decoder.proofs.WriteLaws.{begun-again, begun-step, begun-done}
 use borrow.Author.Rules.{rules}
 use native.Mathlib.Omega.{arith}

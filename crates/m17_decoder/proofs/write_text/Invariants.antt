@@ -1,10 +1,6 @@
 -- The invariant: the text is begun, by what is written and the rest.
 use Prim.Native.Nat.{◌-◌}
-use mathlib.Core.Path.{◌∙◌}
 use Rattle.m17_decoder.specs.Begin.{Begun}
-use Rattle.m17_decoder.proofs.WriteLaws.{begun-again, begun-step, begun-done}
-use borrow.Author.Rules.{rules}
-use native.Mathlib.Omega.{arith}
 use Rattle.m17_decoder.proofs.write_text.Given as goal
 
 abbrev pub invariant-loop-i : goal.invariant-loop-i

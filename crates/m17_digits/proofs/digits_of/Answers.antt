@@ -1,6 +1,5 @@
 -- The digits are those of the laws, which also bound each product.
 use native.Mathlib.Omega.{arith}
-use borrow.Author.Rules.{rules}
 use Rattle.m17_digits.proofs.DigitLaws.{first-digit, second-digit, third-digit}
 use Rattle.m17_digits.proofs.digits_of.Goals as goal
 

@@ -1,8 +1,7 @@
 -- The table's rule, at the character; the bytes before a space and past Z are foreign.
 use Prim.Native.Nat.{◌+◌, ◌-◌}
 use mathlib.Core.Path.{◌≡◌, sym}
-use mathlib.Core.Logic.{⊎_elim}
-use borrow.Author.Tests.{ltb-true, ltb-false}
+use borrow.Author.Tests.{ltb-false}
 use Rattle.m17.proofs.Laws.{digit-before, digit-past, digit-le}
 use native.Mathlib.Omega.{arith}
 use borrow.Author.Rules.{rules}

@@ -1,14 +1,12 @@
 -- Each return is one of the definition's answers.
 use mathlib.Core.Path.{◌≡◌, sym}
-use mathlib.Core.Logic.{⊎_elim}
 use lib.ListN.{length}
-use borrow.Author.Tests.{ltb-true, ltb-false}
+use borrow.Author.Tests.{ltb-false}
 use Rattle.m17.specs.Address.{hash_signs}
 use Rattle.m17.proofs.Laws.{encoding-length, within-below, within-above}
 use Rattle.m17_encoder.specs.Texts.{OneToNine}
 use Rattle.m17_encoder.proofs.SumLaws.{sum-foreign, sum_number, signs-none, answer-foreign, answer-space, answer-number}
 use native.Mathlib.Omega.{arith}
-use borrow.Author.Rules.{rules}
 use Rattle.m17_encoder.proofs.encode.Goals as goal
 use Rattle.m17_encoder.proofs.encode.Goals.{Else-s-eq35, then-n-eq0-via-then-n-eq0, then-n-eq0-via-else-n-eq0+then-n-gt9}
 

@@ -1,10 +1,9 @@
-use Prim.Native.Nat.{◌+◌, ◌-◌, ◌≤◌}
+use Prim.Native.Nat.{◌+◌, ◌-◌}
 use mathlib.Core.Path.{◌≡◌, refl}
 use lib.ListN.{length, drop}
 use lib.Seq.{drop-length}
 use Rattle.m17.specs.Address.{first_foreign}
 use Rattle.m17.proofs.Laws.{foreign-here, foreign_next}
-use borrow.Author.Rules.{rules}
 use native.Mathlib.Omega.{arith}
 use Rattle.m17_encoder.proofs.first_foreign.Goals as goal
 

@@ -1,12 +1,8 @@
 -- The invariant: the first foreign character is i past where it stands in the rest.
 use Prim.Native.Nat.{◌+◌, ◌-◌, ◌≤◌}
-use mathlib.Core.Path.{◌≡◌, refl}
+use mathlib.Core.Path.{◌≡◌}
 use lib.ListN.{length, drop}
-use lib.Seq.{drop-length}
 use Rattle.m17.specs.Address.{first_foreign}
-use Rattle.m17.proofs.Laws.{foreign-here, foreign_next}
-use borrow.Author.Rules.{rules}
-use native.Mathlib.Omega.{arith}
 use Rattle.m17_encoder.proofs.first_foreign.Given as goal
 
 abbrev pub invariant-loop-i : goal.invariant-loop-i

@@ -6,7 +6,6 @@ use Rattle.m17.specs.Address.{address_of, first_foreign, hash_signs}
 use Rattle.m17.proofs.Laws.{foreign-le}
 use Rattle.m17_encoder.proofs.SumLaws.{behind-drop, behind-length, signs-one, tail-foreign, tail-number, answer-foreign, answer-space, answer-number, answer-older, answer-alone, sum_low}
 use native.Mathlib.Omega.{arith}
-use borrow.Author.Rules.{rules}
 use Rattle.m17_encoder.proofs.with_sign.Goals as goal
 use Rattle.m17_encoder.proofs.with_sign.Goals.{Else-text-eq0, In-Number}
 

@@ -1,7 +1,6 @@
 -- Three stores, of the characters of the group's digits.
 use lib.ListN.{length-set}
 use native.Mathlib.Omega.{arith}
-use borrow.Author.Rules.{rules}
 use Rattle.fields.proofs.Laws.{over-three}
 use Rattle.m17_groups.proofs.write_full.Goals as goal
 

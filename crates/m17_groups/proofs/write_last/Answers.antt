@@ -1,8 +1,7 @@
 -- Three stores, of a character and two more where the group has them.
 use lib.ListN.{length-set}
-use mathlib.Core.Path.{sym, ◌∙◌}
+use mathlib.Core.Path.{sym}
 use native.Mathlib.Omega.{arith}
-use borrow.Author.Rules.{rules}
 use Rattle.fields.proofs.Laws.{over-three}
 use Rattle.m17_groups.proofs.Laws.{last-places, last-count}
 use Rattle.m17_groups.proofs.write_last.Goals as goal

@@ -1,17 +1,14 @@
 -- A refusal leaves the file; a valid file holds all its records, and they are migrated, the contacts first.
 use Rattle.layout.specs.Places.{contact_count, channel_count, channel_place}
 use Rattle.fields.specs.declared.rule.Validity.TheVariants.{Valid}
-use Rattle.fields.proofs.Laws.{AllBytes}
 use Rattle.validation.specs.Validation.{validated_by}
 use Rattle.legacy.specs.Reading.{legacy_file_rule}
-use Rattle.legacy.specs.Migration.{migrated}
 use Rattle.legacy_validation.specs.Validation.{legacy_validation}
 use Rattle.migration.proofs.Laws.{records-inside, migrated-in-two, left-as-is, left-migrated}
 use mathlib.Core.Path.{◌≡◌, sym, ◌∙◌}
-use Prim.Native.Nat.{ℕ, ◌+◌, ◌*◌, ◌≤◌}
+use Prim.Native.Nat.{◌+◌, ◌*◌, ◌≤◌}
 use lib.ListN.{length}
 use native.Mathlib.Omega.{arith}
-use borrow.Author.Rules.{rules}
 use Rattle.migration.proofs.migrate.Goals as goal
 use Rattle.migration.proofs.migrate.Goals.{In_default}
 

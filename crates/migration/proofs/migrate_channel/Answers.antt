@@ -1,7 +1,6 @@
 -- The traits where they stand.
 use Rattle.migration.proofs.Laws.{channel-moved}
 use native.Mathlib.Omega.{arith}
-use borrow.Author.Rules.{rules}
 use Rattle.migration.proofs.migrate_channel.Goals as goal
 
 pub returns : goal.returns

@@ -1,11 +1,8 @@
 -- The invariant: i channels are migrated, and what stands from p on is as it was.
 use Rattle.legacy.specs.Migration.{migrated_channel, with_records_at}
-use Rattle.legacy.proofs.RunLaws.{records-more, records-none}
-use Rattle.legacy.proofs.ChannelLaws.{channel-keeps}
 use lib.ListN.{length}
-use mathlib.Core.Path.{◌≡◌, ap, ◌∙◌}
-use Prim.Native.Nat.{ℕ, ◌+◌, ◌*◌, ◌-◌, ◌≤◌}
-use native.Mathlib.Omega.{arith}
+use mathlib.Core.Path.{◌≡◌}
+use Prim.Native.Nat.{◌+◌, ◌*◌, ◌-◌, ◌≤◌}
 use Rattle.migration.proofs.migrate_channels.Given as goal
 
 abbrev pub invariant-loop-i : goal.invariant-loop-i

@@ -1,8 +1,6 @@
 -- The settings of a DMR contact where they stand; any other contact stays.
-use mathlib.Core.Path.{◌∙◌}
 use Rattle.migration.proofs.Laws.{contact-dmr, contact-other}
 use native.Mathlib.Omega.{arith}
-use borrow.Author.Rules.{rules}
 use Rattle.migration.proofs.migrate_contact.Goals as goal
 
 pub returns-then-d-p-eq-DMR : goal.returns-then-d-p-eq-DMR

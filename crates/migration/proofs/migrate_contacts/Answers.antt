@@ -1,9 +1,8 @@
 use Rattle.legacy.specs.Migration.{migrated_contact, with_records_at}
 use Rattle.legacy.proofs.RunLaws.{records-more, records-none}
 use Rattle.legacy.proofs.ContactLaws.{contact-keeps}
-use lib.ListN.{length}
 use mathlib.Core.Path.{◌≡◌, ap, ◌∙◌}
-use Prim.Native.Nat.{ℕ, ◌+◌, ◌*◌, ◌-◌, ◌≤◌}
+use Prim.Native.Nat.{ℕ, ◌+◌, ◌*◌, ◌-◌}
 use native.Mathlib.Omega.{arith}
 use Rattle.migration.proofs.migrate_contacts.Goals as goal
 

@@ -1,6 +1,5 @@
 -- Each arm answers as the definition's rule for it.
 use Rattle.model.specs.EditRules.{is_index}
-use borrow.Author.Rules.{rules}
 use Rattle.model.proofs.is_index.Goals as goal
 
 pub returns-in-Nobody : goal.returns-in-Nobody

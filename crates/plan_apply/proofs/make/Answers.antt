@@ -1,5 +1,4 @@
 -- Each kind of change by its own function.
-use native.Mathlib.Omega.{arith}
 use Rattle.plan_apply.proofs.MakeLaws.{replace-has-room, contacts-has-room, channels-has-room, entries-has-room, bank-has-room, drop-has-room, replaced}
 use Rattle.plan_apply.proofs.make.Goals as goal
 

@@ -1,5 +1,4 @@
 -- Each plan by its own function.
-use native.Mathlib.Omega.{arith}
 use Rattle.plan.specs.Fits.{Fits}
 use Rattle.plan.specs.Plan.{planned}
 use Rattle.plan_span.proofs.span.Goals as goal

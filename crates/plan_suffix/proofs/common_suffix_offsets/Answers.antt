@@ -1,11 +1,8 @@
 use native.Mathlib.Omega.{arith}
-use Prim.Native.Nat.{◌+◌, ◌-◌, ◌≤◌}
-use mathlib.Core.Path.{◌≡◌, sym, ◌∙◌}
-use lib.ListN.{length, take}
+use Prim.Native.Nat.{◌-◌}
+use mathlib.Core.Path.{sym, ◌∙◌}
 use lib.Seq.{length-take-le}
-use Rattle.affixes.specs.Common.{common_suffix}
 use Rattle.renumber.specs.Shift.{growth_of}
-use Rattle.renumber.specs.Moved.{offsets_moved}
 use Rattle.plan_suffix.specs.Suffix.{new_offsets}
 use Rattle.plan_suffix.proofs.SuffixLaws.{suffix-none, Iteration, iteration, suffix-done}
 use Rattle.plan_suffix.proofs.common_suffix_offsets.Goals as goal

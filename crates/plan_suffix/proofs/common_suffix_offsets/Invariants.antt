@@ -1,14 +1,10 @@
 -- The invariant: the last e bytes agree, and what is common before them is what the first i offsets have in common with the rest of s.
-use native.Mathlib.Omega.{arith}
 use Prim.Native.Nat.{◌+◌, ◌-◌, ◌≤◌}
-use mathlib.Core.Path.{◌≡◌, sym, ◌∙◌}
+use mathlib.Core.Path.{◌≡◌}
 use lib.ListN.{length, take}
-use lib.Seq.{length-take-le}
 use Rattle.affixes.specs.Common.{common_suffix}
 use Rattle.renumber.specs.Shift.{growth_of}
 use Rattle.renumber.specs.Moved.{offsets_moved}
-use Rattle.plan_suffix.specs.Suffix.{new_offsets}
-use Rattle.plan_suffix.proofs.SuffixLaws.{suffix-none, Iteration, iteration, suffix-done}
 use Rattle.plan_suffix.proofs.common_suffix_offsets.Given as goal
 
 abbrev pub invariant-loop-i : goal.invariant-loop-i

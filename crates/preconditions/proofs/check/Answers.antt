@@ -2,7 +2,6 @@
 use lib.ListN.{length-take}
 use Rattle.preconditions.proofs.PreconditionLaws.{preconditions-room, preconditions-history, preconditions-both}
 use native.Mathlib.Omega.{arith}
-use borrow.Author.Rules.{rules}
 use Rattle.preconditions.proofs.check.Goals as goal
 
 pub returns-then-room-len : goal.returns-then-room-len

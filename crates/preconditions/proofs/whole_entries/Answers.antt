@@ -1,6 +1,5 @@
 -- The scan counts entries only where all are whole.
 use Rattle.preconditions.proofs.PreconditionLaws.{whole-valid, whole-bad}
-use borrow.Author.Rules.{rules}
 use Rattle.preconditions.proofs.whole_entries.Goals as goal
 
 pub returns-in-Entries : goal.returns-in-Entries

@@ -6,7 +6,6 @@ use Rattle.layout.specs.Places.{bank_count}
 use Rattle.codeplug.specs.Prevalidated.{table_place, bank_prevalidated_rule}
 use Rattle.codeplug.proofs.Laws.{place-below, place-past, never, bank-whole, prevalidated-valid}
 use native.Mathlib.Omega.{arith}
-use borrow.Author.Rules.{rules}
 use Rattle.prevalidated.proofs.bank_validity.Goals as goal
 
 pub returns-then-bank_count-n : goal.returns-then-bank_count-n

@@ -2,7 +2,6 @@
 use mathlib.Core.Path.{◌∙◌}
 use Rattle.codeplug.proofs.Laws.{channel-read-prevalidated}
 use native.Mathlib.Omega.{arith}
-use borrow.Author.Rules.{rules}
 use Rattle.prevalidated.proofs.channel.Goals as goal
 
 pub channel_bytes-requires : goal.channel_bytes-requires

@@ -5,7 +5,6 @@ use Rattle.layout.specs.Places.{channel_count}
 use Rattle.file_rule.proofs.Laws.{channel-whole}
 use Rattle.codeplug.proofs.Laws.{place-below, place-past, never}
 use native.Mathlib.Omega.{arith}
-use borrow.Author.Rules.{rules}
 use Rattle.prevalidated.proofs.channel_validity.Goals as goal
 
 pub returns-then-channel_count-n : goal.returns-then-channel_count-n

@@ -1,7 +1,6 @@
 -- The answer beside the validity, of the bytes where it is valid.
 use mathlib.Core.Path.{◌∙◌}
 use Rattle.codeplug.proofs.Laws.{contact-read-prevalidated}
-use borrow.Author.Rules.{rules}
 use Rattle.prevalidated.proofs.contact.Goals as goal
 
 pub contact_bytes-requires : goal.contact_bytes-requires

@@ -5,7 +5,6 @@ use Rattle.layout.specs.Places.{contact_count}
 use Rattle.file_rule.proofs.Laws.{contact-whole}
 use Rattle.codeplug.proofs.Laws.{place-below, place-past, never}
 use native.Mathlib.Omega.{arith}
-use borrow.Author.Rules.{rules}
 use Rattle.prevalidated.proofs.contact_validity.Goals as goal
 
 pub returns-then-contact_count-n : goal.returns-then-contact_count-n

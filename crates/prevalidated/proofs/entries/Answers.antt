@@ -2,7 +2,6 @@
 use mathlib.Core.Path.{◌∙◌}
 use Rattle.codeplug.specs.Prevalidated.{table_place, entries_prevalidated}
 use Rattle.codeplug.proofs.Laws.{never, entries-same}
-use borrow.Author.Rules.{rules}
 use Rattle.prevalidated.proofs.entries.Goals as goal
 
 pub returns-in-Refused : goal.returns-in-Refused

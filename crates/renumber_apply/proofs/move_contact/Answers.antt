@@ -2,7 +2,6 @@
 use Rattle.renumber.proofs.Laws.{contact-dmr, contact-m17, contact-fm}
 use mathlib.Core.Path.{◌∙◌}
 use native.Mathlib.Omega.{arith}
-use borrow.Author.Rules.{rules}
 use Rattle.renumber_apply.proofs.move_contact.Goals as goal
 
 pub returns-then-mode-eq1 : goal.returns-then-mode-eq1

@@ -1,14 +1,10 @@
 -- The invariant: i channels are moved, and what stands from p on is as it was.
-use Rattle.renumber.proofs.Laws.{contacts-step}
-use Rattle.model.specs.Codeplug.{blocks, joined}
 use Rattle.renumber.specs.Moved.{channels_moved}
 use Rattle.renumber.specs.Shift.{shift_of}
-use Rattle.fields.proofs.Laws.{over_none}
 use Rattle.fields.specs.Bytes.{over}
 use lib.ListN.{length}
-use mathlib.Core.Path.{◌≡◌, ap, ◌∙◌}
-use Prim.Native.Nat.{ℕ, ◌+◌, ◌*◌, ◌-◌, ◌≤◌}
-use native.Mathlib.Omega.{arith}
+use mathlib.Core.Path.{◌≡◌}
+use Prim.Native.Nat.{◌+◌, ◌*◌, ◌-◌, ◌≤◌}
 use Rattle.renumber_apply.proofs.move_contacts.Given as goal
 
 abbrev pub invariant-loop-i : goal.invariant-loop-i

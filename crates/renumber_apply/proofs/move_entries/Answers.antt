@@ -2,7 +2,7 @@ use Rattle.renumber.proofs.Laws.{bank-order, entries_fit, entries-step, bank-non
 use Rattle.renumber.specs.Moved.{banks_moved}
 use Rattle.renumber.specs.Shift.{shift_of}
 use Rattle.layout.specs.Banks.{bank_from}
-use Rattle.fields.proofs.Laws.{AllBytes, over_none}
+use Rattle.fields.proofs.Laws.{over_none}
 use Rattle.fields.specs.Bytes.{over}
 use lib.ListN.{length}
 use mathlib.Core.Path.{◌≡◌, sym, ap, ◌∙◌}

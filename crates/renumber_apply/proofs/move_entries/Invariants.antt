@@ -1,14 +1,11 @@
 -- The invariant: the entries of i banks are moved, and the next bank starts at p.
-use Rattle.renumber.proofs.Laws.{bank-order, entries_fit, entries-step, bank-none, banks_moved-none}
 use Rattle.renumber.specs.Moved.{banks_moved}
 use Rattle.renumber.specs.Shift.{shift_of}
 use Rattle.layout.specs.Banks.{bank_from}
-use Rattle.fields.proofs.Laws.{AllBytes, over_none}
 use Rattle.fields.specs.Bytes.{over}
 use lib.ListN.{length}
-use mathlib.Core.Path.{◌≡◌, sym, ap, ◌∙◌}
-use Prim.Native.Nat.{ℕ, ◌+◌, ◌*◌, ◌-◌, ◌≤◌}
-use native.Mathlib.Omega.{arith}
+use mathlib.Core.Path.{◌≡◌}
+use Prim.Native.Nat.{◌-◌, ◌≤◌}
 use Rattle.renumber_apply.proofs.move_entries.Given as goal
 
 abbrev pub invariant-loop-i : goal.invariant-loop-i

@@ -1,6 +1,5 @@
 -- The index read, moved and written.
 use mathlib.Core.Path.{◌∙◌}
-use borrow.Author.Rules.{rules}
 use Rattle.renumber_apply.proofs.move_index.Goals as goal
 
 pub returns : goal.returns

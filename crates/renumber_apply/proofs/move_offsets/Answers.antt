@@ -3,10 +3,8 @@ use Rattle.renumber.specs.Moved.{offsets_moved}
 use Rattle.renumber.specs.Shift.{growth_of}
 use Rattle.fields.proofs.Laws.{over_none}
 use Rattle.fields.specs.Bytes.{over}
-use lib.ListN.{length}
 use mathlib.Core.Path.{◌≡◌, ap, ◌∙◌}
-use Prim.Native.Nat.{ℕ, ◌+◌, ◌*◌, ◌-◌, ◌≤◌}
-use borrow.Author.Rules.{rules}
+use Prim.Native.Nat.{ℕ, ◌-◌}
 use native.Mathlib.Omega.{arith}
 use Rattle.renumber_apply.proofs.move_offsets.Goals as goal
 

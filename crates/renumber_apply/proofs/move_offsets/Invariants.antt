@@ -1,14 +1,10 @@
 -- The invariant: i offsets are moved, and what stands from p on is as it was.
-use Rattle.renumber.proofs.Laws.{offsets-step}
 use Rattle.renumber.specs.Moved.{offsets_moved}
 use Rattle.renumber.specs.Shift.{growth_of}
-use Rattle.fields.proofs.Laws.{over_none}
 use Rattle.fields.specs.Bytes.{over}
 use lib.ListN.{length}
-use mathlib.Core.Path.{◌≡◌, ap, ◌∙◌}
-use Prim.Native.Nat.{ℕ, ◌+◌, ◌*◌, ◌-◌, ◌≤◌}
-use borrow.Author.Rules.{rules}
-use native.Mathlib.Omega.{arith}
+use mathlib.Core.Path.{◌≡◌}
+use Prim.Native.Nat.{◌+◌, ◌*◌, ◌-◌, ◌≤◌}
 use Rattle.renumber_apply.proofs.move_offsets.Given as goal
 
 abbrev pub invariant-loop-i : goal.invariant-loop-i

@@ -4,9 +4,8 @@ use mathlib.Core.List.{map}
 use Rattle.renumber.specs.Shift.{shift_of}
 use Rattle.fields.proofs.Laws.{over_none}
 use Rattle.fields.specs.Bytes.{over}
-use lib.ListN.{length}
 use mathlib.Core.Path.{◌≡◌, ap, ◌∙◌}
-use Prim.Native.Nat.{ℕ, ◌+◌, ◌*◌, ◌-◌, ◌≤◌}
+use Prim.Native.Nat.{ℕ, ◌-◌}
 use native.Mathlib.Omega.{arith}
 use Rattle.renumber_apply.proofs.move_run.Goals as goal
 

@@ -1,14 +1,11 @@
 -- The invariant: i entries are moved, and what stands from p on is as it was.
-use Rattle.renumber.proofs.Laws.{run_step}
 use Rattle.model.specs.Codeplug.{pairs, indexes_at}
 use mathlib.Core.List.{map}
 use Rattle.renumber.specs.Shift.{shift_of}
-use Rattle.fields.proofs.Laws.{over_none}
 use Rattle.fields.specs.Bytes.{over}
 use lib.ListN.{length}
-use mathlib.Core.Path.{◌≡◌, ap, ◌∙◌}
-use Prim.Native.Nat.{ℕ, ◌+◌, ◌*◌, ◌-◌, ◌≤◌}
-use native.Mathlib.Omega.{arith}
+use mathlib.Core.Path.{◌≡◌}
+use Prim.Native.Nat.{◌+◌, ◌*◌, ◌-◌, ◌≤◌}
 use Rattle.renumber_apply.proofs.move_run.Given as goal
 
 abbrev pub invariant-loop-i : goal.invariant-loop-i

@@ -1,12 +1,10 @@
 use Rattle.renumber_last.proofs.LastLaws.{last_none, last-from, contacts-last}
 use Rattle.model.specs.Codeplug.{blocks, joined}
 use Rattle.renumber.specs.Moved.{channels_moved}
-use Rattle.renumber_last.specs.Last.{LastMoved}
 use Rattle.renumber.specs.Shift.{shift_of}
 use Rattle.fields.specs.Bytes.{over}
 use mathlib.Core.Path.{◌≡◌, ap}
-use Prim.Native.Nat.{ℕ, ◌+◌, ◌*◌, ◌-◌, ◌≤◌}
-use borrow.Author.Rules.{rules}
+use Prim.Native.Nat.{ℕ, ◌-◌}
 use native.Mathlib.Omega.{arith}
 use Rattle.renumber_last.proofs.last_contact.Goals as goal
 

@@ -1,14 +1,10 @@
 -- The invariant: the last index that moves among i channels.
-use Rattle.renumber_last.proofs.LastLaws.{last_none, last-from, contacts-last}
-use Rattle.model.specs.Codeplug.{blocks, joined}
 use Rattle.renumber.specs.Moved.{channels_moved}
 use Rattle.renumber_last.specs.Last.{LastMoved}
 use Rattle.renumber.specs.Shift.{shift_of}
 use Rattle.fields.specs.Bytes.{over}
-use mathlib.Core.Path.{◌≡◌, ap}
-use Prim.Native.Nat.{ℕ, ◌+◌, ◌*◌, ◌-◌, ◌≤◌}
-use borrow.Author.Rules.{rules}
-use native.Mathlib.Omega.{arith}
+use mathlib.Core.Path.{◌≡◌}
+use Prim.Native.Nat.{◌+◌, ◌*◌, ◌-◌, ◌≤◌}
 use Rattle.renumber_last.proofs.last_contact.Given as goal
 
 abbrev pub invariant-loop-i : goal.invariant-loop-i

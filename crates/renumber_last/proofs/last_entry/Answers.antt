@@ -1,15 +1,12 @@
 use Rattle.renumber_last.proofs.LastLaws.{last_none, last-from, entries-last}
 use Rattle.renumber.proofs.Laws.{bank-order, bank-fits, bank-none, banks_moved-none}
-use Rattle.renumber_last.specs.Last.{LastMoved}
 use Rattle.renumber.specs.Moved.{banks_moved}
 use Rattle.renumber.specs.Shift.{shift_of}
 use Rattle.layout.specs.Banks.{bank_from}
-use Rattle.fields.proofs.Laws.{AllBytes}
 use Rattle.fields.specs.Bytes.{over}
 use lib.ListN.{length}
 use mathlib.Core.Path.{◌≡◌, sym, ap}
 use Prim.Native.Nat.{ℕ, ◌+◌, ◌*◌, ◌-◌, ◌≤◌}
-use borrow.Author.Rules.{rules}
 use native.Mathlib.Omega.{arith}
 use Rattle.renumber_last.proofs.last_entry.Goals as goal
 use Rattle.renumber_last.proofs.last_entry.Goals.{After-entry_count-count}

@@ -1,17 +1,11 @@
 -- The invariant: the last entry that moves in i banks; the next bank starts at p.
-use Rattle.renumber_last.proofs.LastLaws.{last_none, last-from, entries-last}
-use Rattle.renumber.proofs.Laws.{bank-order, bank-fits, bank-none, banks_moved-none}
 use Rattle.renumber_last.specs.Last.{LastMoved}
 use Rattle.renumber.specs.Moved.{banks_moved}
 use Rattle.renumber.specs.Shift.{shift_of}
 use Rattle.layout.specs.Banks.{bank_from}
-use Rattle.fields.proofs.Laws.{AllBytes}
 use Rattle.fields.specs.Bytes.{over}
-use lib.ListN.{length}
-use mathlib.Core.Path.{◌≡◌, sym, ap}
-use Prim.Native.Nat.{ℕ, ◌+◌, ◌*◌, ◌-◌, ◌≤◌}
-use borrow.Author.Rules.{rules}
-use native.Mathlib.Omega.{arith}
+use mathlib.Core.Path.{◌≡◌}
+use Prim.Native.Nat.{◌-◌, ◌≤◌}
 use Rattle.renumber_last.proofs.last_entry.Given as goal
 
 abbrev pub invariant-loop-i : goal.invariant-loop-i

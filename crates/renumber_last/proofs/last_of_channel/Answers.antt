@@ -4,7 +4,6 @@ use Rattle.renumber.proofs.Laws.{contact-dmr, contact-m17, contact-fm}
 use Rattle.renumber_last.specs.Last.{LastMoved}
 use mathlib.Core.Path.{sym}
 use native.Mathlib.Omega.{arith}
-use borrow.Author.Rules.{rules}
 use Rattle.renumber_last.proofs.last_of_channel.Goals as goal
 
 pub returns-then-mode-eq1 : goal.returns-then-mode-eq1

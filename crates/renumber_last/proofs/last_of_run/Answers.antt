@@ -1,12 +1,10 @@
 use Rattle.renumber_last.proofs.LastLaws.{last_none, last-from, run-last-step}
 use Rattle.model.specs.Codeplug.{pairs, indexes_at}
 use mathlib.Core.List.{map}
-use Rattle.renumber_last.specs.Last.{LastMoved}
 use Rattle.renumber.specs.Shift.{shift_of}
 use Rattle.fields.specs.Bytes.{over}
 use mathlib.Core.Path.{◌≡◌, ap}
-use Prim.Native.Nat.{ℕ, ◌+◌, ◌*◌, ◌-◌, ◌≤◌}
-use borrow.Author.Rules.{rules}
+use Prim.Native.Nat.{ℕ, ◌-◌}
 use native.Mathlib.Omega.{arith}
 use Rattle.renumber_last.proofs.last_of_run.Goals as goal
 

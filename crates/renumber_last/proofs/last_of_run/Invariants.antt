@@ -1,14 +1,11 @@
 -- The invariant: the last entry that moves among i entries.
-use Rattle.renumber_last.proofs.LastLaws.{last_none, last-from, run-last-step}
 use Rattle.model.specs.Codeplug.{pairs, indexes_at}
 use mathlib.Core.List.{map}
 use Rattle.renumber_last.specs.Last.{LastMoved}
 use Rattle.renumber.specs.Shift.{shift_of}
 use Rattle.fields.specs.Bytes.{over}
-use mathlib.Core.Path.{◌≡◌, ap}
-use Prim.Native.Nat.{ℕ, ◌+◌, ◌*◌, ◌-◌, ◌≤◌}
-use borrow.Author.Rules.{rules}
-use native.Mathlib.Omega.{arith}
+use mathlib.Core.Path.{◌≡◌}
+use Prim.Native.Nat.{◌+◌, ◌*◌, ◌-◌, ◌≤◌}
 use Rattle.renumber_last.proofs.last_of_run.Given as goal
 
 abbrev pub invariant-loop-i : goal.invariant-loop-i

@@ -1,6 +1,5 @@
 -- Each arm answers as the definition's rule for it.
 use Rattle.renumber_last.specs.Last.{later_of}
-use borrow.Author.Rules.{rules}
 use Rattle.renumber_last.proofs.later.Goals as goal
 
 pub returns-in-Nowhere : goal.returns-in-Nowhere

@@ -4,7 +4,6 @@ use Rattle.renumber.proofs.Laws.{shift_small}
 use Rattle.renumber.specs.Shift.{shift_of}
 use Rattle.fields.proofs.Laws.{num-lt}
 use native.Mathlib.Omega.{arith}
-use borrow.Author.Rules.{rules}
 use Rattle.renumber_last.proofs.moves_at.Goals as goal
 
 pub returns-then-shifted-x : goal.returns-then-shifted-x

@@ -1,7 +1,5 @@
-use Prim.Native.Nat.{◌-◌, ◌≤◌}
-use mathlib.Core.Path.{◌≡◌}
-use lib.ListN.{length, length-set}
-use Rattle.rotation.specs.Rotation.{reversed}
+use Prim.Native.Nat.{◌-◌}
+use lib.ListN.{length-set}
 use Rattle.rotation.proofs.RotationLaws.{reversed-none-left, reversed-more, reversed-all}
 use native.Mathlib.Omega.{arith}
 use Rattle.rotation.proofs.reverse.Goals as goal

@@ -1,10 +1,8 @@
 -- What is left between lo and hi, reversed, makes the whole.
 use Prim.Native.Nat.{◌-◌, ◌≤◌}
 use mathlib.Core.Path.{◌≡◌}
-use lib.ListN.{length, length-set}
+use lib.ListN.{length}
 use Rattle.rotation.specs.Rotation.{reversed}
-use Rattle.rotation.proofs.RotationLaws.{reversed-none-left, reversed-more, reversed-all}
-use native.Mathlib.Omega.{arith}
 use Rattle.rotation.proofs.reverse.Given as goal
 
 abbrev pub invariant-loop-hi : goal.invariant-loop-hi

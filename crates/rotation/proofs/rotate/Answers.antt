@@ -1,7 +1,6 @@
 -- Nothing rotated, or one of the three ways.
 use Rattle.rotation.proofs.RotationLaws.{rotated-none, rotated-all}
 use native.Mathlib.Omega.{arith}
-use borrow.Author.Rules.{rules}
 use Rattle.rotation.proofs.rotate.Goals as goal
 
 pub returns-then-by-eq0 : goal.returns-then-by-eq0

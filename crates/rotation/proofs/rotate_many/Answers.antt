@@ -2,7 +2,6 @@
 use mathlib.Core.Path.{◌∙◌}
 use Rattle.rotation.proofs.RotationLaws.{rotated_by}
 use native.Mathlib.Omega.{arith}
-use borrow.Author.Rules.{rules}
 use Rattle.rotation.proofs.rotate_many.Goals as goal
 
 pub returns : goal.returns

@@ -1,7 +1,5 @@
-use Prim.Native.Nat.{◌-◌, ◌≤◌}
-use mathlib.Core.Path.{◌≡◌}
-use lib.ListN.{length, length-set}
-use Rattle.fields.specs.Bytes.{over, part}
+use Prim.Native.Nat.{◌-◌}
+use lib.ListN.{length-set}
 use Rattle.rotation.proofs.RotationLaws.{swap-none, swap-more, swap-all}
 use native.Mathlib.Omega.{arith}
 use Rattle.rotation.proofs.swap.Goals as goal

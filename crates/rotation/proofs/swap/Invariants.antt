@@ -1,10 +1,8 @@
 -- At k, the first k bytes of each block stand in the place of the other, and what is still to be read is as it was.
 use Prim.Native.Nat.{◌-◌, ◌≤◌}
 use mathlib.Core.Path.{◌≡◌}
-use lib.ListN.{length, length-set}
+use lib.ListN.{length}
 use Rattle.fields.specs.Bytes.{over, part}
-use Rattle.rotation.proofs.RotationLaws.{swap-none, swap-more, swap-all}
-use native.Mathlib.Omega.{arith}
 use Rattle.rotation.proofs.swap.Given as goal
 
 abbrev pub invariant-loop-k : goal.invariant-loop-k

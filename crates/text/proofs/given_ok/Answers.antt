@@ -1,6 +1,5 @@
 -- `text::given_ok` meets its contract: past 32 bytes the first test of `given_ok` fails, else its second is `plain_text`'s answer.
 use native.Mathlib.Omega.{arith}
-use borrow.Author.Rules.{rules}
 use borrow.Author.Tests.{lt-leb, le-leb}
 use lib.ListN.{length}
 use Rattle.text.specs.Text.{given_ok}

@@ -1,10 +1,7 @@
 use native.Mathlib.Omega.{arith}
-use Prim.Native.Nat.{◌≤◌, ◌-◌}
-use mathlib.Core.Path.{◌≡◌, refl}
-use mathlib.Core.Logic.{⊎_elim, inl, inr}
-use borrow.Author.Tests.{ltb-true, ltb-false}
-use lib.ListN.{length, drop}
-use Rattle.text.specs.Text.{plain_text}
+use mathlib.Core.Path.{refl}
+use mathlib.Core.Logic.{inl, inr}
+use borrow.Author.Tests.{ltb-false}
 use Rattle.text.proofs.Laws.{plain_step, plain-stop, plain_end}
 use Rattle.text.proofs.plain_text.Goals as goal
 use Rattle.text.proofs.plain_text.Goals.{then-s-i-lt32-via-then-s-i-lt32, then-s-i-lt32-via-else-s-i-lt32+then-s-i-gt126}

@@ -1,5 +1,4 @@
 -- `text::step_fault` meets its contract: the code's tests and those of `step_fault` are one Boolean law.
-use borrow.Author.Rules.{rules}
 use mathlib.Core.Path.{refl}
 use Rattle.text.proofs.Laws.{step-fault-is}
 use Rattle.text.proofs.step_fault.Goals as goal

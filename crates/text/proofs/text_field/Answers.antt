@@ -1,6 +1,5 @@
 -- `text::text_field` meets its contract: inside the record the part of 32 bytes is validated, else the answer is 2.
 use native.Mathlib.Omega.{arith}
-use borrow.Author.Rules.{rules}
 use Prim.Native.Nat.{ℕ, ◌+◌, ◌-◌}
 use mathlib.Core.Path.{◌≡◌, ap, ◌∙◌}
 use mathlib.Core.Bool.{Bool}

@@ -1,9 +1,5 @@
-use Prim.Native.Nat.{◌≤◌, ◌+◌, ◌-◌}
-use mathlib.Core.Path.{◌≡◌}
 use native.Mathlib.Omega.{arith}
 use native.Mathlib.Numerals.{add-one}
-use lib.ListN.{length, drop}
-use Rattle.text.specs.Text.{text_of}
 use Rattle.text.proofs.Laws.{text-more, text-stop, text-end}
 use Rattle.text.proofs.text_length.Goals as goal
 

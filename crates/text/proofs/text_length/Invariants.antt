@@ -1,11 +1,8 @@
 -- The text is as long as what was passed and the text of what is left.
 use Prim.Native.Nat.{◌≤◌, ◌+◌, ◌-◌}
 use mathlib.Core.Path.{◌≡◌}
-use native.Mathlib.Omega.{arith}
-use native.Mathlib.Numerals.{add-one}
 use lib.ListN.{length, drop}
 use Rattle.text.specs.Text.{text_of}
-use Rattle.text.proofs.Laws.{text-more, text-stop, text-end}
 use Rattle.text.proofs.text_length.Given as goal
 
 abbrev pub invariant-loop-i : goal.invariant-loop-i

@@ -1,12 +1,4 @@
-use borrow.Author.Rules.{rules}
 use native.Mathlib.Omega.{arith}
-use Prim.Native.Nat.{◌≤◌, ◌-◌}
-use mathlib.Core.Path.{◌≡◌}
-use mathlib.Core.Bool.{cond, false}
-use lib.Dec.{eqb}
-use lib.ListN.{length, drop}
-use Rattle.text.specs.Text.{text_ok}
-use Rattle.text.specs.Scan.{rest_ok}
 use Rattle.text.proofs.Laws.{rest_ok-start, scan_step, scan-end}
 use Rattle.text.proofs.text_ok.Goals as goal
 

@@ -1,6 +1,4 @@
 -- `text::text_ok` meets its contract. The invariant: with no fault yet the rest behind `prev` decides, after a fault the answer is no.
-use borrow.Author.Rules.{rules}
-use native.Mathlib.Omega.{arith}
 use Prim.Native.Nat.{◌≤◌, ◌-◌}
 use mathlib.Core.Path.{◌≡◌}
 use mathlib.Core.Bool.{cond, false}
@@ -8,7 +6,6 @@ use lib.Dec.{eqb}
 use lib.ListN.{length, drop}
 use Rattle.text.specs.Text.{text_ok}
 use Rattle.text.specs.Scan.{rest_ok}
-use Rattle.text.proofs.Laws.{rest_ok-start, scan_step, scan-end}
 use Rattle.text.proofs.text_ok.Given as goal
 
 abbrev pub invariant-loop-i : goal.invariant-loop-i

@@ -1,6 +1,5 @@
 -- The text over zeros.
 use native.Mathlib.Omega.{arith}
-use borrow.Author.Rules.{rules}
 use mathlib.Core.Path.{◌∙◌}
 use Rattle.fields.specs.Bytes.{zeros}
 use Rattle.text.proofs.Laws.{given_ok-length}

@@ -1,5 +1,4 @@
 -- The buffer, then the text.
-use borrow.Author.Rules.{rules}
 use Rattle.text_writer.specs.Field.{text_write_rule}
 use Rattle.text_writer.proofs.validate.Goals as goal
 

@@ -1,7 +1,6 @@
 -- A valid answer comes with room for the field; a refused one leaves the buffer.
 use mathlib.Core.Path.{sym, ◌∙◌, ap}
 use native.Mathlib.Omega.{arith}
-use borrow.Author.Rules.{rules}
 use lib.ListN.{length}
 use Rattle.fields.proofs.Laws.{written-valid, written-refused}
 use Rattle.text.proofs.Laws.{given_ok-length, length-padded}

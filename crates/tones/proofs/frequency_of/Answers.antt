@@ -2,7 +2,6 @@
 -- Assumes nothing.
 use borrow.Author.Tests.{lt-ltb, le-ltb}
 use Rattle.tones.specs.Tone.{frequency_of, tone_table}
-use borrow.Author.Rules.{rules}
 use Rattle.tones.proofs.frequency_of.Goals as goal
 
 pub returns-then-index-lt50 : goal.returns-then-index-lt50

@@ -1,6 +1,5 @@
 -- The index, of either kind.
 use Rattle.tones.specs.Tone.{tone_index}
-use borrow.Author.Rules.{rules}
 use Rattle.tones.proofs.index_in.Goals as goal
 
 pub returns-in-Enabled : goal.returns-in-Enabled

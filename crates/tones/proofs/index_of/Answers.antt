@@ -1,7 +1,5 @@
-use mathlib.Core.Path.{◌≡◌, refl, sym, ◌∙◌}
-use Prim.Native.Nat.{◌-◌, ◌≤◌}
-use lib.ListN.{drop}
-use Rattle.tones.specs.Tone.{index_of, index_from, tone_table}
+use mathlib.Core.Path.{refl, sym, ◌∙◌}
+use Rattle.tones.specs.Tone.{index_of, tone_table}
 use Rattle.tones.proofs.Laws.{search-hit, search-on, search-over}
 use native.Mathlib.Omega.{arith}
 use Rattle.tones.proofs.index_of.Goals as goal
@@ -20,7 +18,6 @@ unfolding tone_table
 loop-i-preserved c = (
   omega arith,
   c.loop-i.invariant.1 ∙ search-on tone_table _ c.loop-i.i (omega arith) c.if-i-tenths.false,
-
 )
 
 pub returns : goal.returns

@@ -1,11 +1,9 @@
 -- `tones::index_of` meets its contract: the search from i on, in what is left of the table, answers what the whole search does.
 -- The measure is what is left of the table. Assumes nothing.
-use mathlib.Core.Path.{◌≡◌, refl, sym, ◌∙◌}
+use mathlib.Core.Path.{◌≡◌}
 use Prim.Native.Nat.{◌-◌, ◌≤◌}
 use lib.ListN.{drop}
 use Rattle.tones.specs.Tone.{index_of, index_from, tone_table}
-use Rattle.tones.proofs.Laws.{search-hit, search-on, search-over}
-use native.Mathlib.Omega.{arith}
 use Rattle.tones.proofs.index_of.Given as goal
 
 abbrev pub invariant-loop-i : goal.invariant-loop-i

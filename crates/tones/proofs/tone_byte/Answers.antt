@@ -2,7 +2,6 @@
 -- Assumes nothing.
 use Rattle.tones.specs.Tone.{tone_byte}
 use Rattle.tones.proofs.Laws.{enabled-byte}
-use borrow.Author.Rules.{rules}
 use Rattle.tones.proofs.tone_byte.Goals as goal
 
 pub returns-in-Enabled : goal.returns-in-Enabled

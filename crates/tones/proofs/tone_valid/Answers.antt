@@ -1,7 +1,6 @@
 -- `tones::tone_valid` meets its contract: the test is of the index, of either kind.
 -- Assumes nothing.
 use Rattle.tones.specs.Tone.{tone_valid, tone_index}
-use borrow.Author.Rules.{rules}
 use Rattle.tones.proofs.tone_valid.Goals as goal
 
 pub returns-in-Enabled : goal.returns-in-Enabled

@@ -1,7 +1,6 @@
 -- What follows is moved down, and zeros put behind it.
 use Rattle.undo.proofs.UndoLaws.{dropped}
 use native.Mathlib.Omega.{arith}
-use borrow.Author.Rules.{rules}
 use Rattle.undo.proofs.drop_front.Goals as goal
 
 pub returns : goal.returns

@@ -1,8 +1,6 @@
 -- Where the entry does not fit nothing is changed; else it is taken back and dropped.
-use borrow.Author.Tests.{not-true, not-false}
 use Rattle.undo.proofs.UndoLaws.{past-codeplug, past_room, refused-back, taken_back}
 use native.Mathlib.Omega.{arith}
-use borrow.Author.Rules.{rules}
 use Rattle.undo.proofs.take_back.Goals as goal
 
 pub returns-then-len-k : goal.returns-then-len-k

@@ -1,7 +1,6 @@
 -- Refused as it stands, or the first entry taken back.
 use mathlib.Core.Path.{sym, ◌∙◌}
 use Rattle.undo.proofs.UndoLaws.{undo-refused}
-use borrow.Author.Rules.{rules}
 use Rattle.undo.proofs.undo.Goals as goal
 
 pub returns-in-Refused : goal.returns-in-Refused

@@ -5,7 +5,6 @@ use Rattle.journal.proofs.ScanLaws.{head_read, head-broken}
 use Rattle.preconditions.proofs.PreconditionLaws.{preconditions-inside}
 use Rattle.undo.proofs.UndoLaws.{held-read, undo-broken, undo-none, undo-first-entry, undo-asks}
 use native.Mathlib.Omega.{arith}
-use borrow.Author.Rules.{rules}
 use Rattle.undo.proofs.undo_top.Goals as goal
 
 pub slice_bounds-history_entries-end : goal.slice_bounds-history_entries-end

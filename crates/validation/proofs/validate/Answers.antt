@@ -1,6 +1,5 @@
 -- The validity chooses the answer.
 use Rattle.validation.specs.Validation.{validation, validated_by}
-use borrow.Author.Rules.{rules}
 use Rattle.validation.proofs.validate.Goals as goal
 
 pub returns-in-Valid : goal.returns-in-Valid

@@ -5,7 +5,6 @@ use Rattle.layout.specs.Banks.{offsets_rule, banks_rule}
 use Rattle.file_rule.specs.File.{contacts_rule, channels_rule, file_rule}
 use Rattle.file_rule.proofs.FileLaws.{from_contacts, from_channels, from_offsets, file-long, file-fits, goes_on, stops}
 use native.Mathlib.Omega.{arith}
-use borrow.Author.Rules.{rules}
 use Rattle.validation.proofs.validity_of.Goals as goal
 
 pub returns-then-f-gt-FILE_MAX : goal.returns-then-f-gt-FILE_MAX

@@ -6,7 +6,6 @@ use native.Mathlib.Omega.{arith}
 use lib.ListN.{length, get_or}
 use mir.Syntax.{w8}
 use mir.Val.{Fits}
-use borrow.Author.Rules.{rules}
 use Rattle.varint.proofs.CodeLaws.{ByteHere, Three, read-end, read_one, read-cut, read-zero, read-two, read-cut-two}
 use Rattle.varint.proofs.CodeLaws.{read-zero-three, read-long, read-large, read-three}
 use Rattle.varint.proofs.number_at.Goals as goal

@@ -4,7 +4,6 @@ use Rattle.varint.proofs.CodeLaws.{put_one, put_two, put_three}
 use lib.ListN.{length, length-set}
 use mathlib.Core.Path.{ap}
 use native.Mathlib.Omega.{arith}
-use borrow.Author.Rules.{rules}
 use Rattle.varint.proofs.put_number.Goals as goal
 
 pub bounds-d-k : goal.bounds-d-k

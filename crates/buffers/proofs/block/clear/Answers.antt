@@ -1,8 +1,5 @@
 use native.Mathlib.Omega.{arith}
-use Prim.Native.Nat.{◌-◌, ◌≤◌}
-use mathlib.Core.Path.{◌≡◌}
-use lib.ListN.{length, length-set}
-use Rattle.fields.specs.Bytes.{over, zeros}
+use lib.ListN.{length-set}
 use Rattle.buffers.proofs.Laws.{zeros-more, zeros-none, zeros-all}
 use Rattle.buffers.proofs.block.clear.Goals as goal
 

@@ -1,10 +1,8 @@
 -- Zeros: at index i, i of them stand over d from the start of the block on.
-use native.Mathlib.Omega.{arith}
 use Prim.Native.Nat.{◌-◌, ◌≤◌}
 use mathlib.Core.Path.{◌≡◌}
-use lib.ListN.{length, length-set}
+use lib.ListN.{length}
 use Rattle.fields.specs.Bytes.{over, zeros}
-use Rattle.buffers.proofs.Laws.{zeros-more, zeros-none, zeros-all}
 use Rattle.buffers.proofs.block.clear.Given as goal
 
 abbrev pub invariant-loop-i : goal.invariant-loop-i

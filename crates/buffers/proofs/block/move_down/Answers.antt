@@ -1,8 +1,6 @@
 use native.Mathlib.Omega.{arith}
-use Prim.Native.Nat.{◌-◌, ◌≤◌}
-use mathlib.Core.Path.{◌≡◌}
-use lib.ListN.{length, length-set}
-use Rattle.fields.specs.Bytes.{over, part}
+use Prim.Native.Nat.{◌-◌}
+use lib.ListN.{length-set}
 use Rattle.buffers.proofs.Laws.{down-more, down-none, down-all}
 use Rattle.buffers.proofs.block.move_down.Goals as goal
 

@@ -1,10 +1,8 @@
 -- From the first byte on: at index i, the first i bytes of the block stand at their place, and what is still to be read is as it was.
-use native.Mathlib.Omega.{arith}
 use Prim.Native.Nat.{◌-◌, ◌≤◌}
 use mathlib.Core.Path.{◌≡◌}
-use lib.ListN.{length, length-set}
+use lib.ListN.{length}
 use Rattle.fields.specs.Bytes.{over, part}
-use Rattle.buffers.proofs.Laws.{down-more, down-none, down-all}
 use Rattle.buffers.proofs.block.move_down.Given as goal
 
 abbrev pub invariant-loop-i : goal.invariant-loop-i

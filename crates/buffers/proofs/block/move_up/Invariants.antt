@@ -1,10 +1,8 @@
 -- From the last byte on: at index i, the block from its byte i on stands at its place.
-use native.Mathlib.Omega.{arith}
 use Prim.Native.Nat.{◌+◌, ◌-◌, ◌≤◌}
 use mathlib.Core.Path.{◌≡◌}
-use lib.ListN.{length, length-set}
+use lib.ListN.{length}
 use Rattle.fields.specs.Bytes.{over, part}
-use Rattle.buffers.proofs.Laws.{up_step, up_none, up-all}
 use Rattle.buffers.proofs.block.move_up.Given as goal
 
 abbrev pub invariant-loop-i : goal.invariant-loop-i

@@ -1,5 +1,4 @@
 -- The content behind is moved up and s put in front of it.
-use borrow.Author.Rules.{rules}
 use native.Mathlib.Omega.{arith}
 use Rattle.buffers.proofs.Laws.{grown}
 use Rattle.buffers.proofs.splicing.grow.Goals as goal

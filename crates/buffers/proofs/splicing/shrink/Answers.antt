@@ -1,5 +1,4 @@
 -- The content behind is moved down, s put in front of it, and zeros behind it.
-use borrow.Author.Rules.{rules}
 use native.Mathlib.Omega.{arith}
 use Rattle.buffers.proofs.Laws.{shrunk}
 use Rattle.buffers.proofs.splicing.shrink.Goals as goal

@@ -1,6 +1,5 @@
 -- The outcome taken apart.
 use Rattle.capi.proofs.CallLaws.{called}
-use borrow.Author.Rules.{rules}
 use Rattle.capi.proofs.calls.codeplug_edit.Goals as goal
 
 pub returns : goal.returns

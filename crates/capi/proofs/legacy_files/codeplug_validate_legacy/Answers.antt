@@ -1,5 +1,4 @@
 -- The answer as numbers.
-use borrow.Author.Rules.{rules}
 use Rattle.capi.proofs.legacy_files.codeplug_validate_legacy.Goals as goal
 
 pub returns : goal.returns

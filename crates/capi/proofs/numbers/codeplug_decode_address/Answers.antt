@@ -1,5 +1,4 @@
 -- The answer as numbers; the buffer is as `decode` leaves it.
-use borrow.Author.Rules.{rules}
 use Rattle.capi.proofs.numbers.codeplug_decode_address.Goals as goal
 
 pub returns : goal.returns

@@ -1,5 +1,4 @@
 -- The answer as numbers.
-use borrow.Author.Rules.{rules}
 use Rattle.capi.proofs.numbers.codeplug_encode_callsign.Goals as goal
 
 pub returns : goal.returns

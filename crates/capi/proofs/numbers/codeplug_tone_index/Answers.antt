@@ -1,5 +1,4 @@
 -- The answer as numbers.
-use borrow.Author.Rules.{rules}
 use Rattle.capi.proofs.numbers.codeplug_tone_index.Goals as goal
 
 pub returns : goal.returns

@@ -1,6 +1,5 @@
 -- What is read, from the validity and the bytes beside it.
 use Rattle.codeplug.proofs.Laws.{bank-read}
-use borrow.Author.Rules.{rules}
 use Rattle.capi.proofs.read.codeplug_bank.Goals as goal
 
 pub bank_bytes-requires : goal.bank_bytes-requires

@@ -1,6 +1,5 @@
 -- What is read, from the validity and the bytes beside it.
 use Rattle.codeplug.proofs.Laws.{channel-read-prevalidated}
-use borrow.Author.Rules.{rules}
 use Rattle.capi.proofs.read.codeplug_channel_prevalidated.Goals as goal
 
 pub channel_bytes-requires : goal.channel_bytes-requires

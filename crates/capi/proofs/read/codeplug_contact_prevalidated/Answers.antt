@@ -1,6 +1,5 @@
 -- What is read, from the validity and the bytes beside it.
 use Rattle.codeplug.proofs.Laws.{contact-read-prevalidated}
-use borrow.Author.Rules.{rules}
 use Rattle.capi.proofs.read.codeplug_contact_prevalidated.Goals as goal
 
 pub contact_bytes-requires : goal.contact_bytes-requires

@@ -1,6 +1,5 @@
 -- The answer beside the file's validity.
 use Rattle.codeplug.specs.Read.{header_read}
-use borrow.Author.Rules.{rules}
 use Rattle.capi.proofs.read.codeplug_header.Goals as goal
 
 pub header_out-requires : goal.header_out-requires

@@ -1,5 +1,4 @@
 -- The answer as numbers.
-use borrow.Author.Rules.{rules}
 use Rattle.capi.proofs.read.codeplug_validate.Goals as goal
 
 pub returns : goal.returns

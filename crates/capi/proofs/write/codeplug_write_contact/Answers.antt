@@ -1,5 +1,4 @@
 -- The edition by its number.
-use borrow.Author.Rules.{rules}
 use Rattle.capi.proofs.write.codeplug_write_contact.Goals as goal
 
 pub returns : goal.returns

@@ -1,7 +1,6 @@
 -- The mode chooses the numbers.
 use Rattle.channel_reader.specs.Reading.{info_of}
-use borrow.Author.Tests.{eq-eqb, ne_eqb}
-use borrow.Author.Rules.{rules}
+use borrow.Author.Tests.{eq-eqb}
 use Rattle.capi_convert.proofs.channels.channel_info.Goals as goal
 
 pub returns-in-0 : goal.returns-in-0

@@ -7,7 +7,6 @@ use Rattle.channel_reader.specs.Reading.{channel_answer, blank_channel, channel_
 use Rattle.capi_convert.specs.Channels.{channel_info, channel_to_c}
 use native.Mathlib.Omega.{arith}
 use Rattle.capi_convert.proofs.Laws.{put-valid, channel-out}
-use borrow.Author.Rules.{rules}
 use Rattle.capi_convert.proofs.channels.channel_out.Goals as goal
 
 pub put_texts-validity-requires : goal.put_texts-validity-requires

@@ -1,6 +1,5 @@
 -- The fields of the answer, one by one.
 use Rattle.capi_convert.specs.Channels.{channel_info}
-use borrow.Author.Rules.{rules}
 use Rattle.capi_convert.proofs.channels.m17_info.Goals as goal
 
 pub returns : goal.returns

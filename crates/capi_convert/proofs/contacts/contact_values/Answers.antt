@@ -1,5 +1,4 @@
 -- By the kind of info.
-use borrow.Author.Rules.{rules}
 use Rattle.capi_convert.proofs.contacts.contact_values.Goals as goal
 
 pub returns-in-Dmr : goal.returns-in-Dmr

@@ -1,5 +1,4 @@
 -- By the kind of step.
-use borrow.Author.Rules.{rules}
 use Rattle.capi_convert.proofs.files.bank_entry_answer.Goals as goal
 
 pub returns-in-Entry : goal.returns-in-Entry

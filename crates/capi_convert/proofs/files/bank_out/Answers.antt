@@ -2,7 +2,6 @@
 use Rattle.capi_convert.specs.Files.{bank_to_c}
 use native.Mathlib.Omega.{arith}
 use Rattle.capi_convert.proofs.Laws.{put-valid, bank-validity, bank-out}
-use borrow.Author.Rules.{rules}
 use Rattle.capi_convert.proofs.files.bank_out.Goals as goal
 
 pub put_name-validity-requires : goal.put_name-validity-requires

@@ -2,7 +2,6 @@
 use Rattle.capi_convert.specs.Files.{header_to_c}
 use native.Mathlib.Omega.{arith}
 use Rattle.capi_convert.proofs.Laws.{put-valid, header-validity, header-out}
-use borrow.Author.Rules.{rules}
 use Rattle.capi_convert.proofs.files.header_out.Goals as goal
 
 pub put_texts-validity-requires : goal.put_texts-validity-requires

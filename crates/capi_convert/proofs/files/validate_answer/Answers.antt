@@ -1,5 +1,4 @@
 -- By the kind of answer.
-use borrow.Author.Rules.{rules}
 use Rattle.capi_convert.proofs.files.validate_answer.Goals as goal
 
 pub returns-in-Accepted : goal.returns-in-Accepted

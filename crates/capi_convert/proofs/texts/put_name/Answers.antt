@@ -3,7 +3,6 @@ use mathlib.Core.Path.{◌∙◌}
 use Rattle.fields.specs.Rule.{written}
 use native.Mathlib.Omega.{arith}
 use Rattle.capi_convert.proofs.Laws.{room-and-valid}
-use borrow.Author.Rules.{rules}
 use Rattle.capi_convert.proofs.texts.put_name.Goals as goal
 
 pub returns-in-Refused : goal.returns-in-Refused

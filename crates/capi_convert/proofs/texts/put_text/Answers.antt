@@ -1,5 +1,4 @@
 -- What is put is the text.
-use borrow.Author.Rules.{rules}
 use Rattle.capi_convert.proofs.texts.put_text.Goals as goal
 
 pub returns : goal.returns

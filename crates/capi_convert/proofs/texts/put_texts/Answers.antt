@@ -6,7 +6,6 @@ use Rattle.fields.specs.Rule.{written}
 use Rattle.fields.proofs.Laws.{part-add, long-part, over-then}
 use native.Mathlib.Omega.{arith}
 use Rattle.capi_convert.proofs.Laws.{room-and-valid}
-use borrow.Author.Rules.{rules}
 use Rattle.capi_convert.proofs.texts.put_texts.Goals as goal
 use Rattle.capi_convert.proofs.texts.put_texts.Goals.{In_default}
 

@@ -1,5 +1,4 @@
 -- The answer as numbers.
-use borrow.Author.Rules.{rules}
 use Rattle.capi_numbers.proofs.history.entries.Goals as goal
 
 pub returns : goal.returns

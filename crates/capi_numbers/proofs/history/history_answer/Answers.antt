@@ -1,5 +1,4 @@
 -- By the kind of answer.
-use borrow.Author.Rules.{rules}
 use Rattle.capi_numbers.proofs.history.history_answer.Goals as goal
 
 pub returns-in-Entries : goal.returns-in-Entries

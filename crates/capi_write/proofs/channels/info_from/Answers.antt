@@ -1,7 +1,6 @@
 -- The mode chooses the info.
 use Rattle.capi_write.specs.Channels.{info_from}
 use borrow.Author.Tests.{eq-eqb, ne_eqb}
-use borrow.Author.Rules.{rules}
 use Rattle.capi_write.proofs.channels.info_from.Goals as goal
 
 pub returns-then-v-eq-FM : goal.returns-then-v-eq-FM

@@ -2,7 +2,6 @@
 use mathlib.Core.Path.{◌∙◌}
 use native.Mathlib.Omega.{arith}
 use Rattle.capi_write.proofs.ChannelLaws.{channel-goes, channel-stops}
-use borrow.Author.Rules.{rules}
 use Rattle.capi_write.proofs.channels.write.Goals as goal
 
 pub returns-then-info-gt2 : goal.returns-then-info-gt2

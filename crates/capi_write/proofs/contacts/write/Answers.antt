@@ -2,11 +2,8 @@
 use mathlib.Core.Path.{◌≡◌, ◌∙◌}
 use mathlib.Core.Bool.{true}
 use Rattle.contact.specs.Contact.{mode_ok}
-use mathlib.Core.Logic.{⊎_elim}
 use native.Mathlib.Omega.{arith}
 use Rattle.capi_write.proofs.ContactLaws.{dmr-known, m17-known, mode-foreign, contact-goes, contact-stops}
-use borrow.Author.Tests.{eqb-true, eqb-false}
-use borrow.Author.Rules.{rules}
 use Rattle.capi_write.proofs.contacts.write.Goals as goal
 use Rattle.capi_write.proofs.contacts.write.Goals.{then-mode-eq-DMR-via-then-mode-eq-DMR, then-mode-eq-DMR-via-else-mode-eq-DMR+then-mode-eq-M17}
 

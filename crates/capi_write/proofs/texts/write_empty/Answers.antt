@@ -1,5 +1,4 @@
 -- The refusal as numbers; the buffer is as the writer leaves it.
-use borrow.Author.Rules.{rules}
 use Rattle.capi_write.proofs.texts.write_empty.Goals as goal
 
 pub returns : goal.returns

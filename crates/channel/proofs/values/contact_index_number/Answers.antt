@@ -1,6 +1,5 @@
 -- Each variant's number is the definition's.
 use Rattle.channel.specs.Values.{contact_index_number}
-use borrow.Author.Rules.{rules}
 use Rattle.channel.proofs.values.contact_index_number.Goals as goal
 
 pub returns-in-Nobody : goal.returns-in-Nobody

@@ -2,7 +2,6 @@
 use Rattle.channel.specs.Rule.{named_contact}
 use borrow.Author.Tests.{eq-eqb, ne_eqb}
 use native.Mathlib.Omega.{arith}
-use borrow.Author.Rules.{rules}
 use Rattle.channel.proofs.values.named_contact.Goals as goal
 
 pub returns-then-m-eq-DMR : goal.returns-then-m-eq-DMR

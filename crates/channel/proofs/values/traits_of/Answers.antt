@@ -1,6 +1,5 @@
 -- The fields are the byte's number and flag.
 use Rattle.channel.specs.Values.{traits_of}
-use borrow.Author.Rules.{rules}
 use Rattle.channel.proofs.values.traits_of.Goals as goal
 
 pub returns : goal.returns

@@ -1,7 +1,6 @@
 -- Every field lies inside a whole record, so what is left of the rule is its tests.
 use Rattle.fields.proofs.Laws.{valid-both, valid-field}
 use Rattle.channel.specs.Rule.{fm_rule}
-use borrow.Author.Rules.{rules}
 use Rattle.channel_validation.proofs.whole.fm_valid.Goals as goal
 
 pub returns : goal.returns

@@ -1,7 +1,6 @@
 -- The three modes, by the definition's tests on the mode.
 use Rattle.fields.proofs.Laws.{valid-cond}
 use Rattle.channel.specs.Rule.{info_rule}
-use borrow.Author.Rules.{rules}
 use Rattle.channel_validation.proofs.whole.info_valid.Goals as goal
 
 pub returns : goal.returns

@@ -4,7 +4,6 @@ use native.Mathlib.Omega.{arith}
 use lib.ListN.{take}
 use lib.Seq.{take_all}
 use Rattle.fields.proofs.Laws.{valid-both}
-use borrow.Author.Rules.{rules}
 use Rattle.channel_validation.proofs.whole.is_valid_by.Goals as goal
 
 pub returns : goal.returns

@@ -2,7 +2,6 @@
 use Rattle.fields.proofs.Laws.{valid-both, valid-field}
 use mathlib.Core.Bool.{and-true}
 use Rattle.channel.specs.Rule.{location_rule}
-use borrow.Author.Rules.{rules}
 use Rattle.channel_validation.proofs.whole.location_valid.Goals as goal
 
 pub returns : goal.returns

@@ -5,7 +5,6 @@ use Rattle.codeplug.specs.Read.{entries_read}
 use Rattle.codeplug.specs.Prevalidated.{table_place}
 use Rattle.codeplug.proofs.Laws.{place-valid, placed-leads, never, entries-same}
 use native.Mathlib.Omega.{arith}
-use borrow.Author.Rules.{rules}
 use Rattle.codeplug.proofs.bank_entries.entries.Goals as goal
 
 pub returns-in-Refused : goal.returns-in-Refused

@@ -1,6 +1,5 @@
 -- Beside a refusal none; else the bytes behind the entry count.
 use Rattle.codeplug.specs.Read.{entries_answer}
-use borrow.Author.Rules.{rules}
 use Rattle.codeplug.proofs.bank_entries.entries_of.Goals as goal
 
 pub returns-in-Refused : goal.returns-in-Refused

@@ -7,7 +7,6 @@ use Rattle.codeplug.specs.Read.{place_rule, entries_read, entry_answer, entry_re
 use Rattle.codeplug.specs.Prevalidated.{table_place}
 use Rattle.codeplug.proofs.Laws.{place-valid, placed-leads}
 use native.Mathlib.Omega.{arith}
-use borrow.Author.Rules.{rules}
 use Rattle.codeplug.proofs.bank_entries.entry.Goals as goal
 
 pub offset_place-requires : goal.offset_place-requires

@@ -3,7 +3,6 @@ use Rattle.codeplug.specs.Prevalidated.{table_place}
 use Rattle.codeplug.specs.Read.{bytes_answer}
 use Rattle.codeplug.proofs.Laws.{never}
 use native.Mathlib.Omega.{arith}
-use borrow.Author.Rules.{rules}
 use Rattle.codeplug.proofs.bytes.bank_bytes.Goals as goal
 
 pub returns-in-Refused : goal.returns-in-Refused

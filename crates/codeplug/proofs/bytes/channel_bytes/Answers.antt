@@ -3,7 +3,6 @@ use Rattle.fields.proofs.Laws.{length_part, part-inside}
 use Rattle.layout.specs.Places.{channel_place}
 use Rattle.codeplug.specs.Read.{bytes_answer}
 use Rattle.codeplug.proofs.Laws.{never}
-use borrow.Author.Rules.{rules}
 use native.Mathlib.Omega.{arith}
 use Rattle.codeplug.proofs.bytes.channel_bytes.Goals as goal
 

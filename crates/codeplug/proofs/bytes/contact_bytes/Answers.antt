@@ -1,8 +1,6 @@
 -- `Valid` comes with a place to read from.
 use Rattle.codeplug.specs.Read.{bytes_answer}
 use Rattle.codeplug.proofs.Laws.{never}
-use borrow.Author.Rules.{rules}
-use native.Mathlib.Omega.{arith}
 use Rattle.codeplug.proofs.bytes.contact_bytes.Goals as goal
 
 pub returns-in-Refused : goal.returns-in-Refused

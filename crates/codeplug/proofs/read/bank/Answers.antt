@@ -1,7 +1,6 @@
 -- The answer beside the validity, of the bytes that the offset leads to where it is valid.
 use mathlib.Core.Path.{◌∙◌}
 use Rattle.codeplug.proofs.Laws.{bank-read}
-use borrow.Author.Rules.{rules}
 use Rattle.codeplug.proofs.read.bank.Goals as goal
 
 pub bank_bytes-requires : goal.bank_bytes-requires

@@ -1,6 +1,5 @@
 -- The validity chooses what stands beside it.
 use Rattle.codeplug.specs.Read.{bank_answer}
-use borrow.Author.Rules.{rules}
 use Rattle.codeplug.proofs.read.bank_answer.Goals as goal
 
 pub bank_of-requires : goal.bank_of-requires

@@ -1,6 +1,5 @@
 -- The name and the count as they are read.
 use Rattle.codeplug.specs.Read.{bank_of}
-use borrow.Author.Rules.{rules}
 use Rattle.codeplug.proofs.read.bank_of.Goals as goal
 
 pub returns : goal.returns

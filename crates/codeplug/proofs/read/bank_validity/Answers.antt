@@ -2,7 +2,6 @@
 use mathlib.Core.Path.{sym, ◌∙◌}
 use Rattle.codeplug.proofs.Laws.{place-valid, placed-leads, placed-bank}
 use native.Mathlib.Omega.{arith}
-use borrow.Author.Rules.{rules}
 use Rattle.codeplug.proofs.read.bank_validity.Goals as goal
 
 pub returns : goal.returns

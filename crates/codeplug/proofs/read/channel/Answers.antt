@@ -2,7 +2,6 @@
 use mathlib.Core.Path.{◌∙◌}
 use Rattle.codeplug.proofs.Laws.{channel-read}
 use native.Mathlib.Omega.{arith}
-use borrow.Author.Rules.{rules}
 use Rattle.codeplug.proofs.read.channel.Goals as goal
 
 pub channel_bytes-requires : goal.channel_bytes-requires

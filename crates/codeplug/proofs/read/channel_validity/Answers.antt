@@ -3,7 +3,6 @@ use mathlib.Core.Path.{sym, ◌∙◌}
 use Rattle.layout.specs.Places.{channel_count}
 use Rattle.codeplug.proofs.Laws.{place-valid, placed-channel}
 use native.Mathlib.Omega.{arith}
-use borrow.Author.Rules.{rules}
 use Rattle.codeplug.proofs.read.channel_validity.Goals as goal
 
 pub returns : goal.returns

@@ -1,7 +1,6 @@
 -- The answer beside the validity, of the bytes where it is valid.
 use mathlib.Core.Path.{◌∙◌}
 use Rattle.codeplug.proofs.Laws.{contact-read}
-use borrow.Author.Rules.{rules}
 use Rattle.codeplug.proofs.read.contact.Goals as goal
 
 pub contact_bytes-requires : goal.contact_bytes-requires

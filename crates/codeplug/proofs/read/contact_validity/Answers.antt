@@ -3,7 +3,6 @@ use mathlib.Core.Path.{sym, ◌∙◌}
 use Rattle.layout.specs.Places.{contact_count}
 use Rattle.codeplug.proofs.Laws.{place-valid, placed-contact}
 use native.Mathlib.Omega.{arith}
-use borrow.Author.Rules.{rules}
 use Rattle.codeplug.proofs.read.contact_validity.Goals as goal
 
 pub returns : goal.returns

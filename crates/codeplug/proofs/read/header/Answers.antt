@@ -1,6 +1,5 @@
 -- The answer beside the file's validity.
 use Rattle.codeplug.specs.Read.{header_read}
-use borrow.Author.Rules.{rules}
 use Rattle.codeplug.proofs.read.header.Goals as goal
 
 pub header_answer-requires : goal.header_answer-requires

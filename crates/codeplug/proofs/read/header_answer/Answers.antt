@@ -1,6 +1,5 @@
 -- The validity chooses what stands beside it.
 use Rattle.codeplug.specs.Read.{header_answer}
-use borrow.Author.Rules.{rules}
 use Rattle.codeplug.proofs.read.header_answer.Goals as goal
 
 pub header_of-requires : goal.header_of-requires

@@ -1,6 +1,5 @@
 -- The fields as they are read.
 use Rattle.codeplug.specs.Read.{header_of}
-use borrow.Author.Rules.{rules}
 use Rattle.codeplug.proofs.read.header_of.Goals as goal
 
 pub returns : goal.returns

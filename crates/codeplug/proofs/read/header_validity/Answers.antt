@@ -1,7 +1,6 @@
 -- An accepted file has the 88 bytes.
 use mathlib.Core.Path.{sym, ◌∙◌}
 use Rattle.file_rule.proofs.Laws.{file-header}
-use borrow.Author.Rules.{rules}
 use Rattle.codeplug.proofs.read.header_validity.Goals as goal
 
 pub returns : goal.returns

@@ -1,6 +1,5 @@
 -- The two validities in turn.
 use Rattle.codeplug.specs.Read.{place_rule}
-use borrow.Author.Rules.{rules}
 use Rattle.codeplug.proofs.read.place.Goals as goal
 
 pub returns : goal.returns

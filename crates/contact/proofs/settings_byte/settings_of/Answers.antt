@@ -1,5 +1,4 @@
 -- The two values of the byte.
-use borrow.Author.Rules.{rules}
 use Rattle.contact.specs.Contact.{settings_of}
 use Rattle.contact.proofs.settings_byte.settings_of.Goals as goal
 

@@ -1,7 +1,6 @@
 -- Every field lies inside a whole record, so what is left of the rule is its tests, and the info by the mode.
 use Rattle.fields.proofs.Laws.{valid-both, valid-field, valid-cond}
 use Rattle.contact.specs.Contact.{mode_ok}
-use borrow.Author.Rules.{rules}
 use Rattle.contact_validation.proofs.whole.is_valid_by.Goals as goal
 
 pub returns : goal.returns

@@ -1,7 +1,6 @@
 -- The address lies inside a whole record, so what is left of the rule is its test.
 use Rattle.fields.proofs.Laws.{valid-field}
 use Rattle.contact.specs.Contact.{m17_rule}
-use borrow.Author.Rules.{rules}
 use Rattle.contact_validation.proofs.whole.m17_valid.Goals as goal
 
 pub returns : goal.returns

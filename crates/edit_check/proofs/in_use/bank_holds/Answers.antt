@@ -1,10 +1,7 @@
-use Prim.Native.Nat.{◌+◌, ◌*◌, ◌-◌, ◌≤◌}
-use mathlib.Core.Path.{◌≡◌, sym, ◌∙◌}
+use Prim.Native.Nat.{◌-◌}
+use mathlib.Core.Path.{sym, ◌∙◌}
 use native.Mathlib.Nat.{sub-zero}
-use Rattle.model.specs.Codeplug.{indexes_at}
-use Rattle.model.specs.EditRules.{holds_channel}
 use Rattle.edit_check.proofs.InUse.{holds-none, holds-found, holds-next}
-use borrow.Author.Rules.{rules}
 use native.Mathlib.Omega.{arith}
 use Rattle.edit_check.proofs.in_use.bank_holds.Goals as goal
 

@@ -1,12 +1,8 @@
 -- The invariant: the entries from the j-th on, which stands at p, answer for all.
 use Prim.Native.Nat.{◌+◌, ◌*◌, ◌-◌, ◌≤◌}
-use mathlib.Core.Path.{◌≡◌, sym, ◌∙◌}
-use native.Mathlib.Nat.{sub-zero}
+use mathlib.Core.Path.{◌≡◌}
 use Rattle.model.specs.Codeplug.{indexes_at}
 use Rattle.model.specs.EditRules.{holds_channel}
-use Rattle.edit_check.proofs.InUse.{holds-none, holds-found, holds-next}
-use borrow.Author.Rules.{rules}
-use native.Mathlib.Omega.{arith}
 use Rattle.edit_check.proofs.in_use.bank_holds.Given as goal
 
 abbrev pub invariant-loop-j : goal.invariant-loop-j

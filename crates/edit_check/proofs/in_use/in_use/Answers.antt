@@ -1,11 +1,4 @@
 -- Each arm knows its kinds: the definition's rule for them.
-use mathlib.Core.Path.{refl}
-use mathlib.Core.Bool.{false}
-use mathlib.Core.List.{[], ◌∷◌}
-use Rattle.model.specs.EditRules.{in_use}
-use Rattle.model.specs.Codeplug.{codeplug_of}
-use Rattle.model.proofs.KindLaws.{one_of}
-use borrow.Author.Rules.{rules}
 use Rattle.edit_check.proofs.in_use.in_use.Goals as goal
 
 pub returns-in-RemoveContact : goal.returns-in-RemoveContact

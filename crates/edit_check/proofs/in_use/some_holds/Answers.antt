@@ -1,10 +1,8 @@
-use Prim.Native.Nat.{◌+◌, ◌*◌, ◌-◌, ◌≤◌, ◌^◌}
-use mathlib.Core.Path.{◌≡◌, sym, ◌∙◌}
+use Prim.Native.Nat.{◌-◌}
+use mathlib.Core.Path.{sym, ◌∙◌}
 use native.Mathlib.Nat.{sub-zero}
-use Rattle.model.specs.Codeplug.{banks_at, codeplug_of}
-use Rattle.model.specs.EditRules.{some_holds}
+use Rattle.model.specs.Codeplug.{codeplug_of}
 use Rattle.edit_check.proofs.InUse.{banks-none, banks-found, banks-next}
-use borrow.Author.Rules.{rules}
 use native.Mathlib.Omega.{arith}
 use Rattle.edit_check.proofs.in_use.some_holds.Goals as goal
 

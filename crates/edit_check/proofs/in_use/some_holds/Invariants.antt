@@ -1,12 +1,8 @@
 -- The invariant: the banks from the n-th on, which stands at p, answer for all; the bound keeps p in range.
 use Prim.Native.Nat.{◌+◌, ◌*◌, ◌-◌, ◌≤◌, ◌^◌}
-use mathlib.Core.Path.{◌≡◌, sym, ◌∙◌}
-use native.Mathlib.Nat.{sub-zero}
+use mathlib.Core.Path.{◌≡◌}
 use Rattle.model.specs.Codeplug.{banks_at, codeplug_of}
 use Rattle.model.specs.EditRules.{some_holds}
-use Rattle.edit_check.proofs.InUse.{banks-none, banks-found, banks-next}
-use borrow.Author.Rules.{rules}
-use native.Mathlib.Omega.{arith}
 use Rattle.edit_check.proofs.in_use.some_holds.Given as goal
 
 abbrev pub invariant-loop-n : goal.invariant-loop-n

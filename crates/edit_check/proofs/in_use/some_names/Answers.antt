@@ -1,11 +1,8 @@
-use Prim.Native.Nat.{◌+◌, ◌*◌, ◌-◌, ◌≤◌}
-use mathlib.Core.Path.{◌≡◌, sym, ◌∙◌}
+use Prim.Native.Nat.{◌-◌}
+use mathlib.Core.Path.{sym, ◌∙◌}
 use native.Mathlib.Nat.{sub-zero}
-use lib.ListN.{drop}
-use Rattle.model.specs.Codeplug.{blocks, codeplug_of}
-use Rattle.model.specs.EditRules.{some_names}
+use Rattle.model.specs.Codeplug.{codeplug_of}
 use Rattle.edit_check.proofs.InUse.{names-none, names-found, names-next}
-use borrow.Author.Rules.{rules}
 use native.Mathlib.Omega.{arith}
 use Rattle.edit_check.proofs.in_use.some_names.Goals as goal
 

@@ -1,13 +1,9 @@
 -- The invariant: the channels from the n-th on, which stands at p, answer for all.
 use Prim.Native.Nat.{◌+◌, ◌*◌, ◌-◌, ◌≤◌}
-use mathlib.Core.Path.{◌≡◌, sym, ◌∙◌}
-use native.Mathlib.Nat.{sub-zero}
+use mathlib.Core.Path.{◌≡◌}
 use lib.ListN.{drop}
 use Rattle.model.specs.Codeplug.{blocks, codeplug_of}
 use Rattle.model.specs.EditRules.{some_names}
-use Rattle.edit_check.proofs.InUse.{names-none, names-found, names-next}
-use borrow.Author.Rules.{rules}
-use native.Mathlib.Omega.{arith}
 use Rattle.edit_check.proofs.in_use.some_names.Given as goal
 
 abbrev pub invariant-loop-n : goal.invariant-loop-n

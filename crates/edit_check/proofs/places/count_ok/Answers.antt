@@ -1,12 +1,5 @@
 -- Each arm knows its kinds: the definition's rule for them, over the counts of the file.
-use mathlib.Core.Path.{refl}
-use mathlib.Core.Bool.{true}
-use mathlib.Core.List.{[], ◌∷◌}
-use Rattle.model.specs.EditRules.{count_ok}
-use Rattle.model.specs.Codeplug.{codeplug_of}
-use Rattle.model.proofs.KindLaws.{one_of}
 use Rattle.model.proofs.PlaceLaws.{contacts-count, channels-count, banks-count}
-use borrow.Author.Rules.{rules}
 use Rattle.edit_check.proofs.places.count_ok.Goals as goal
 
 pub entries_in-requires : goal.entries_in-requires

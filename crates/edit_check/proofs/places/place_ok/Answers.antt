@@ -1,14 +1,6 @@
 -- Each arm knows its kinds: the definition's rule for them, over the counts of the file.
-use mathlib.Core.Path.{refl}
 use mathlib.Core.Logic.{inl, inr}
-use mathlib.Core.Bool.{Bool}
-use mathlib.Core.List.{[], ◌∷◌}
-use Rattle.model.specs.declared.Kind.{Kind}
-use Rattle.model.specs.EditRules.{place_ok}
-use Rattle.model.specs.Codeplug.{codeplug_of}
-use Rattle.model.proofs.KindLaws.{one_of}
 use Rattle.model.proofs.PlaceLaws.{contacts-count, channels-count, banks-count}
-use borrow.Author.Rules.{rules}
 use Rattle.edit_check.proofs.places.place_ok.Goals as goal
 
 pub entries_in-requires : goal.entries_in-requires

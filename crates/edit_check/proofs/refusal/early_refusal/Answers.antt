@@ -1,7 +1,6 @@
 -- The four tests in order.
-use borrow.Author.Tests.{eq-eqb, ne_eqb, not-true, not-false}
+use borrow.Author.Tests.{eq-eqb, ne_eqb}
 use Rattle.fields.specs.Rule.{◌then◌, unless}
-use borrow.Author.Rules.{rules}
 use Rattle.edit_check.proofs.refusal.early_refusal.Goals as goal
 
 pub returns-then-r-record_length : goal.returns-then-r-record_length

@@ -1,9 +1,6 @@
 -- The tests before the result is read, then reading it, then the room.
-use Rattle.fields.proofs.Laws.{AllBytes}
-use Rattle.model.specs.HasLayout.{HasLayout}
 use Rattle.edits.proofs.AcceptedCodeplug.{has-layout}
 use Rattle.edit_check.proofs.RefusalLaws.{Passed, early-passed, refused-early, refused-read, refused-room}
-use borrow.Author.Rules.{rules}
 use Rattle.edit_check.proofs.refusal.refusal.Goals as goal
 use Rattle.edit_check.proofs.refusal.refusal.Goals.{In_default}
 

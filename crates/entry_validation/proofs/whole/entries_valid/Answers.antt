@@ -1,7 +1,7 @@
 use Rattle.layout.specs.Banks.{entry_at}
 use Rattle.fields.specs.Rule.{is_valid, each}
 use Rattle.fields.proofs.Laws.{valid-step, valid-end}
-use Prim.Native.Nat.{ℕ, ◌+◌, ◌*◌, ◌-◌, ◌≤◌}
+use Prim.Native.Nat.{ℕ, ◌-◌}
 use mathlib.Core.Path.{◌≡◌, refl}
 use native.Mathlib.Omega.{arith}
 use Rattle.entry_validation.proofs.whole.entries_valid.Goals as goal

@@ -1,10 +1,8 @@
 -- The invariant: ok says whether the first i entries are valid, and the next one stands at p.
 use Rattle.layout.specs.Banks.{entry_at}
 use Rattle.fields.specs.Rule.{is_valid, each}
-use Rattle.fields.proofs.Laws.{valid-step, valid-end}
-use Prim.Native.Nat.{ℕ, ◌+◌, ◌*◌, ◌-◌, ◌≤◌}
-use mathlib.Core.Path.{◌≡◌, refl}
-use native.Mathlib.Omega.{arith}
+use Prim.Native.Nat.{◌+◌, ◌*◌, ◌-◌, ◌≤◌}
+use mathlib.Core.Path.{◌≡◌}
 use Rattle.entry_validation.proofs.whole.entries_valid.Given as goal
 
 abbrev pub invariant-loop-i : goal.invariant-loop-i

@@ -4,7 +4,6 @@ use Prim.Native.Nat.{◌+◌}
 use Rattle.fields.proofs.Laws.{num-two, length_part, valid-field}
 use Rattle.layout.specs.Banks.{entry_at}
 use native.Mathlib.Omega.{arith}
-use borrow.Author.Rules.{rules}
 use Rattle.entry_validation.proofs.whole.entry_valid.Goals as goal
 
 pub overflow_cast-result : goal.overflow_cast-result

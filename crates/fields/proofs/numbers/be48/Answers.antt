@@ -1,6 +1,5 @@
 -- Six bytes by twos, the high one first.
 use native.Mathlib.Omega.{arith}
-use borrow.Author.Rules.{rules}
 use Rattle.fields.proofs.Laws.{big-six}
 use Rattle.fields.proofs.numbers.be48.Goals as goal
 

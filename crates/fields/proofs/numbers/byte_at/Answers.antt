@@ -1,5 +1,4 @@
 -- Past the end the default of get_or stands.
-use borrow.Author.Rules.{rules}
 use mathlib.Core.Path.{sym}
 use lib.ListN.{get_or-eq_default}
 use Rattle.fields.proofs.numbers.byte_at.Goals as goal

@@ -1,5 +1,4 @@
 -- The low byte and 256 times the high one.
-use borrow.Author.Rules.{rules}
 use Rattle.fields.proofs.Laws.{num-two}
 use Rattle.fields.proofs.numbers.le16.Goals as goal
 

@@ -1,6 +1,4 @@
 -- Two bytes, and 65536 times the next two.
-use native.Mathlib.Omega.{arith}
-use borrow.Author.Rules.{rules}
 use Rattle.fields.proofs.Laws.{num-parts}
 use Rattle.fields.proofs.numbers.le32.Goals as goal
 

@@ -1,6 +1,4 @@
 -- Four bytes, and 2 ^ 32 times the next four.
-use native.Mathlib.Omega.{arith}
-use borrow.Author.Rules.{rules}
 use Rattle.fields.proofs.Laws.{num-parts}
 use Rattle.fields.proofs.numbers.le64.Goals as goal
 

@@ -1,8 +1,7 @@
 use native.Mathlib.Omega.{arith}
-use Prim.Native.Nat.{◌≤◌, ◌<◌, ◌-◌}
-use mathlib.Core.Path.{◌≡◌, refl}
-use lib.ListN.{length, take, length-set}
-use Rattle.fields.specs.Bytes.{part}
+use Prim.Native.Nat.{◌<◌}
+use mathlib.Core.Path.{refl}
+use lib.ListN.{length, length-set}
 use Rattle.fields.proofs.Laws.{copied_more, copied_all}
 use Rattle.fields.proofs.put.bytes32.Goals as goal
 

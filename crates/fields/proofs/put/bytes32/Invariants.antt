@@ -1,10 +1,8 @@
 -- The copy: at index i, the first i bytes of a are those of s at k.
-use native.Mathlib.Omega.{arith}
-use Prim.Native.Nat.{◌≤◌, ◌<◌, ◌-◌}
-use mathlib.Core.Path.{◌≡◌, refl}
-use lib.ListN.{length, take, length-set}
+use Prim.Native.Nat.{◌≤◌, ◌-◌}
+use mathlib.Core.Path.{◌≡◌}
+use lib.ListN.{length, take}
 use Rattle.fields.specs.Bytes.{part}
-use Rattle.fields.proofs.Laws.{copied_more, copied_all}
 use Rattle.fields.proofs.put.bytes32.Given as goal
 
 abbrev pub invariant-loop-i : goal.invariant-loop-i

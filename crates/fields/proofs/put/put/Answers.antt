@@ -1,8 +1,5 @@
-use Prim.Native.Nat.{◌≤◌, ◌-◌}
-use mathlib.Core.Path.{◌≡◌}
-use lib.ListN.{length, take, length-set}
+use lib.ListN.{length-set}
 use native.Mathlib.Omega.{arith}
-use Rattle.fields.specs.Bytes.{over}
 use Rattle.fields.proofs.Laws.{over_none, over-more, over-all}
 use Rattle.fields.proofs.put.put.Goals as goal
 

@@ -1,10 +1,8 @@
 -- The copy: at index i, the first i bytes of src stand over dst from k on.
 use Prim.Native.Nat.{◌≤◌, ◌-◌}
 use mathlib.Core.Path.{◌≡◌}
-use lib.ListN.{length, take, length-set}
-use native.Mathlib.Omega.{arith}
+use lib.ListN.{length, take}
 use Rattle.fields.specs.Bytes.{over}
-use Rattle.fields.proofs.Laws.{over_none, over-more, over-all}
 use Rattle.fields.proofs.put.put.Given as goal
 
 abbrev pub invariant-loop-i : goal.invariant-loop-i

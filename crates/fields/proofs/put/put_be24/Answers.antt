@@ -1,6 +1,5 @@
 -- Three stores, the high byte first.
 use native.Mathlib.Omega.{arith}
-use borrow.Author.Rules.{rules}
 use lib.ListN.{length-set}
 use Rattle.fields.proofs.Laws.{over-be24}
 use Rattle.fields.proofs.put.put_be24.Goals as goal

@@ -1,6 +1,5 @@
 -- The high half and the low half lie side by side.
 use native.Mathlib.Omega.{arith}
-use borrow.Author.Rules.{rules}
 use Rattle.fields.proofs.Laws.{over-big}
 use Rattle.fields.proofs.put.put_be48.Goals as goal
 

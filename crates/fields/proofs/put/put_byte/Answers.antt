@@ -1,5 +1,4 @@
 -- One byte is a list of one byte.
-use borrow.Author.Rules.{rules}
 use Rattle.fields.proofs.Laws.{over-byte}
 use Rattle.fields.proofs.put.put_byte.Goals as goal
 

@@ -1,6 +1,5 @@
 -- Two stores, of the low byte and of the high one.
 use native.Mathlib.Omega.{arith}
-use borrow.Author.Rules.{rules}
 use lib.ListN.{length-set}
 use Rattle.fields.proofs.Laws.{over-le16}
 use Rattle.fields.proofs.put.put_le16.Goals as goal

@@ -1,6 +1,5 @@
 -- The low half and the high half lie side by side.
 use native.Mathlib.Omega.{arith}
-use borrow.Author.Rules.{rules}
 use Rattle.fields.proofs.Laws.{over-little}
 use Rattle.fields.proofs.put.put_le32.Goals as goal
 

@@ -1,5 +1,4 @@
 -- By whether the field is wholly inside.
-use borrow.Author.Rules.{rules}
 use mathlib.Core.Path.{sym, ◌∙◌}
 use Rattle.fields.proofs.Laws.{field-inside, field_cut}
 use Rattle.fields.proofs.rule.field.Goals as goal

@@ -1,5 +1,4 @@
 -- By the two variants of the first validity.
-use borrow.Author.Rules.{rules}
 use Rattle.fields.specs.Rule.{◌then◌}
 use Rattle.fields.proofs.rule.first.Goals as goal
 

@@ -4,7 +4,6 @@ use Prim.Native.Nat.{◌+◌, ◌-◌}
 use native.Mathlib.Omega.{arith}
 use Rattle.fields.specs.Bytes.{part}
 use Rattle.file_rule.proofs.Laws.{index-by-bytes}
-use borrow.Author.Rules.{rules}
 use Rattle.file_channels.proofs.whole.channel_valid.Goals as goal
 
 pub returns : goal.returns

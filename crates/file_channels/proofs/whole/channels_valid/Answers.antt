@@ -1,7 +1,7 @@
 use Rattle.file_rule.specs.File.{channel_at, channels_rule}
 use Rattle.fields.specs.Rule.{is_valid, each}
 use Rattle.fields.proofs.Laws.{valid-step, valid-end}
-use Prim.Native.Nat.{ℕ, ◌+◌, ◌*◌, ◌-◌, ◌≤◌}
+use Prim.Native.Nat.{ℕ, ◌-◌}
 use mathlib.Core.Path.{◌≡◌, refl}
 use native.Mathlib.Omega.{arith}
 use Rattle.file_channels.proofs.whole.channels_valid.Goals as goal

@@ -1,10 +1,8 @@
 -- The invariant: ok says whether the first i channels are valid, and the next one stands at p.
-use Rattle.file_rule.specs.File.{channel_at, channels_rule}
+use Rattle.file_rule.specs.File.{channel_at}
 use Rattle.fields.specs.Rule.{is_valid, each}
-use Rattle.fields.proofs.Laws.{valid-step, valid-end}
-use Prim.Native.Nat.{ℕ, ◌+◌, ◌*◌, ◌-◌, ◌≤◌}
-use mathlib.Core.Path.{◌≡◌, refl}
-use native.Mathlib.Omega.{arith}
+use Prim.Native.Nat.{◌+◌, ◌*◌, ◌-◌, ◌≤◌}
+use mathlib.Core.Path.{◌≡◌}
 use Rattle.file_channels.proofs.whole.channels_valid.Given as goal
 
 abbrev pub invariant-loop-i : goal.invariant-loop-i

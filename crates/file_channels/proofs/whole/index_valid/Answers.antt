@@ -1,7 +1,5 @@
 -- The definition's tests, with the contact of an index below the count looked at.
 use Rattle.file_channels.proofs.WholeLaws.{index-named}
-use native.Mathlib.Omega.{arith}
-use borrow.Author.Rules.{rules}
 use Rattle.file_channels.proofs.whole.index_valid.Goals as goal
 
 pub returns : goal.returns

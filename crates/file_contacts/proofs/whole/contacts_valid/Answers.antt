@@ -2,7 +2,7 @@ use Rattle.file_rule.specs.File.{contact_at, contacts_rule}
 use Rattle.layout.specs.Places.{contact_place}
 use Rattle.fields.specs.Rule.{is_valid, each}
 use Rattle.fields.proofs.Laws.{valid-step, valid-end}
-use Prim.Native.Nat.{ℕ, ◌+◌, ◌*◌, ◌-◌, ◌≤◌}
+use Prim.Native.Nat.{ℕ, ◌-◌}
 use mathlib.Core.Path.{◌≡◌, refl}
 use native.Mathlib.Omega.{arith}
 use Rattle.file_contacts.proofs.whole.contacts_valid.Goals as goal

@@ -1,7 +1,6 @@
 -- The run is moved up, and zeros put behind it.
 use Rattle.journal.proofs.RecordLaws.{reserved}
 use native.Mathlib.Omega.{arith}
-use borrow.Author.Rules.{rules}
 use Rattle.journal.proofs.recording.reserve.Goals as goal
 
 pub returns : goal.returns

@@ -1,12 +1,10 @@
-use Prim.Native.Nat.{◌-◌, ◌≤◌}
+use Prim.Native.Nat.{◌-◌}
 use mathlib.Core.Path.{◌≡◌}
 use native.Mathlib.Omega.{arith}
 use lib.ListN.{length, drop}
-use borrow.Author.Rules.{rules}
-use Rattle.fields.proofs.Laws.{AllBytes}
 use Rattle.journal.specs.Entry.{front_of, none}
 use Rattle.journal.proofs.ScanLaws.{HeadRead, head_read, head-broken}
-use Rattle.journal.proofs.ScanLaws.{Fitting, fitting-start, fitting-step, fitting-full, fitting-end, fitting-whole}
+use Rattle.journal.proofs.ScanLaws.{fitting-start, fitting-step, fitting-full, fitting-end, fitting-whole}
 use Rattle.journal.proofs.scan.fitting.Goals as goal
 use Rattle.journal.proofs.scan.fitting.Goals.{In-Broken, In-Entry}
 

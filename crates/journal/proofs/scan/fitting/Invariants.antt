@@ -1,13 +1,7 @@
 -- The invariant: the run of all is what is passed and then the run of the rest, which is whole entries.
 use Prim.Native.Nat.{◌-◌, ◌≤◌}
-use mathlib.Core.Path.{◌≡◌}
-use native.Mathlib.Omega.{arith}
-use lib.ListN.{length, drop}
-use borrow.Author.Rules.{rules}
-use Rattle.fields.proofs.Laws.{AllBytes}
-use Rattle.journal.specs.Entry.{front_of, none}
-use Rattle.journal.proofs.ScanLaws.{HeadRead, head_read, head-broken}
-use Rattle.journal.proofs.ScanLaws.{Fitting, fitting-start, fitting-step, fitting-full, fitting-end, fitting-whole}
+use lib.ListN.{length}
+use Rattle.journal.proofs.ScanLaws.{Fitting}
 use Rattle.journal.proofs.scan.fitting.Given as goal
 
 abbrev pub invariant-loop-bytes : goal.invariant-loop-bytes

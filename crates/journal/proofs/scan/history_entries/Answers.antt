@@ -1,12 +1,10 @@
-use Prim.Native.Nat.{◌-◌, ◌≤◌}
+use Prim.Native.Nat.{◌-◌}
 use mathlib.Core.Path.{◌≡◌}
 use native.Mathlib.Omega.{arith}
 use lib.ListN.{length, drop}
-use borrow.Author.Rules.{rules}
-use Rattle.journal.specs.Entry.{front_of, none, entries_of}
-use Rattle.journal.specs.History.{number_of_entries}
+use Rattle.journal.specs.Entry.{front_of, none}
 use Rattle.journal.proofs.ScanLaws.{HeadRead, head_read, head-broken}
-use Rattle.journal.proofs.ScanLaws.{added, counted_start, counted_step, counted_stop, counted-end}
+use Rattle.journal.proofs.ScanLaws.{counted_start, counted_step, counted_stop, counted-end}
 use Rattle.journal.proofs.scan.history_entries.Goals as goal
 use Rattle.journal.proofs.scan.history_entries.Goals.{In-Broken, In-Entry}
 

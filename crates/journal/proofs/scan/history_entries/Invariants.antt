@@ -1,13 +1,10 @@
 -- The invariant: the count of all is n more than the count of what is left.
 use Prim.Native.Nat.{◌-◌, ◌≤◌}
 use mathlib.Core.Path.{◌≡◌}
-use native.Mathlib.Omega.{arith}
 use lib.ListN.{length, drop}
-use borrow.Author.Rules.{rules}
-use Rattle.journal.specs.Entry.{front_of, none, entries_of}
+use Rattle.journal.specs.Entry.{entries_of}
 use Rattle.journal.specs.History.{number_of_entries}
-use Rattle.journal.proofs.ScanLaws.{HeadRead, head_read, head-broken}
-use Rattle.journal.proofs.ScanLaws.{added, counted_start, counted_step, counted_stop, counted-end}
+use Rattle.journal.proofs.ScanLaws.{added}
 use Rattle.journal.proofs.scan.history_entries.Given as goal
 
 abbrev pub invariant-loop-k : goal.invariant-loop-k

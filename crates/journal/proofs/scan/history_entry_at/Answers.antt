@@ -1,7 +1,6 @@
 -- Three numbers, then the old bytes: each return is one law on the numbers read so far.
 use Prim.Native.Nat.{◌+◌}
 use native.Mathlib.Omega.{arith}
-use borrow.Author.Rules.{rules}
 use Rattle.journal.proofs.ScanLaws.{NumberHere, number-here, here-inside, no_place, no-put, no-taken, old-cut, old-whole}
 use Rattle.journal.proofs.scan.history_entry_at.Goals as goal
 use Rattle.journal.proofs.scan.history_entry_at.Goals.{In-Number, In-Number-number_at, In-Number-number_at-2}

@@ -1,7 +1,6 @@
 -- Past the table of offsets.
 use Rattle.layout.specs.Places.{banks_place}
 use native.Mathlib.Omega.{arith}
-use borrow.Author.Rules.{rules}
 use Rattle.layout.proofs.places.banks_place.Goals as goal
 
 pub returns : goal.returns

@@ -1,7 +1,6 @@
 -- Past the contacts.
 use Rattle.layout.specs.Places.{channel_place}
 use native.Mathlib.Omega.{arith}
-use borrow.Author.Rules.{rules}
 use Rattle.layout.proofs.places.channel_place.Goals as goal
 
 pub returns : goal.returns

@@ -1,6 +1,5 @@
 -- The three counts as they are read.
 use Rattle.layout.specs.Places.{contact_count, channel_count, bank_count, counts_of}
-use borrow.Author.Rules.{rules}
 use Rattle.layout.proofs.places.counts_of.Goals as goal
 
 pub returns : goal.returns

@@ -1,7 +1,6 @@
 -- A head of 34 bytes and two for each entry.
 use Rattle.layout.specs.Banks.{next_bank}
 use native.Mathlib.Omega.{arith}
-use borrow.Author.Rules.{rules}
 use Rattle.layout.proofs.places.next_bank.Goals as goal
 
 pub returns : goal.returns

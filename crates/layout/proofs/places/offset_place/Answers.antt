@@ -1,7 +1,6 @@
 -- Past the channels.
 use Rattle.layout.specs.Places.{offset_place}
 use native.Mathlib.Omega.{arith}
-use borrow.Author.Rules.{rules}
 use Rattle.layout.proofs.places.offset_place.Goals as goal
 
 pub returns : goal.returns

@@ -2,7 +2,6 @@
 use mathlib.Core.Path.{refl}
 use Rattle.layout.proofs.Laws.{record-bytes-none, record-bytes-all, record-bytes-rest}
 use native.Mathlib.Omega.{arith}
-use borrow.Author.Rules.{rules}
 use Rattle.layout.proofs.places.record_bytes.Goals as goal
 
 pub returns-then-n-p : goal.returns-then-n-p

@@ -1,6 +1,5 @@
 -- The offset and the head first; where they are valid, the entries.
 use Rattle.layout.proofs.Laws.{bank_at-bad, bank_at-rest}
-use borrow.Author.Rules.{rules}
 use Rattle.layout_validation.proofs.banks.bank_at.Goals as goal
 
 pub returns-in-Refused : goal.returns-in-Refused

@@ -3,7 +3,6 @@ use lib.ListN.{drop}
 use lib.Seq.{take-take}
 use Rattle.layout.specs.Banks.{bank_head}
 use native.Mathlib.Omega.{arith}
-use borrow.Author.Rules.{rules}
 use Rattle.layout_validation.proofs.banks.bank_head.Goals as goal
 
 pub returns : goal.returns

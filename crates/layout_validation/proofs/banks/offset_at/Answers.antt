@@ -1,5 +1,4 @@
 -- One field, of the bytes that are lent.
-use borrow.Author.Rules.{rules}
 use Rattle.layout_validation.proofs.banks.offset_at.Goals as goal
 
 pub returns : goal.returns

@@ -1,9 +1,7 @@
-use Rattle.layout.specs.Banks.{banks_from, banks_rule}
+use Rattle.layout.specs.Banks.{banks_rule}
 use Rattle.layout.proofs.Laws.{banks-next, banks-bad, banks-done}
-use Prim.Native.Nat.{◌+◌, ◌*◌, ◌-◌, ◌≤◌, ◌^◌}
-use mathlib.Core.Path.{◌≡◌}
+use Prim.Native.Nat.{◌-◌}
 use native.Mathlib.Nat.{sub-zero}
-use borrow.Author.Rules.{rules}
 use native.Mathlib.Omega.{arith}
 use Rattle.layout_validation.proofs.banks.validate_banks.Goals as goal
 
@@ -23,7 +21,6 @@ loop-i-init c = (
       ),
     ),
   ),
-
 )
 
 pub returns-in-Refused : goal.returns-in-Refused

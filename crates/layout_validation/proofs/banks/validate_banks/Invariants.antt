@@ -1,11 +1,7 @@
 -- The invariant: the banks from the i-th on, which stands at p with its offset at t, answer for all; the bounds keep both in range.
 use Rattle.layout.specs.Banks.{banks_from, banks_rule}
-use Rattle.layout.proofs.Laws.{banks-next, banks-bad, banks-done}
 use Prim.Native.Nat.{◌+◌, ◌*◌, ◌-◌, ◌≤◌, ◌^◌}
 use mathlib.Core.Path.{◌≡◌}
-use native.Mathlib.Nat.{sub-zero}
-use borrow.Author.Rules.{rules}
-use native.Mathlib.Omega.{arith}
 use Rattle.layout_validation.proofs.banks.validate_banks.Given as goal
 
 abbrev pub invariant-loop-i : goal.invariant-loop-i

@@ -1,6 +1,5 @@
 -- The fields in order; the code and the definition have the same shape.
 use Rattle.layout.specs.Header.{header_rule}
-use borrow.Author.Rules.{rules}
 use Rattle.layout_validation.proofs.header.validate_header.Goals as goal
 
 pub returns : goal.returns

@@ -1,6 +1,5 @@
 -- The fields in order; the code and the definition have the same shape.
 use Rattle.layout.specs.Header.{identity_rule}
-use borrow.Author.Rules.{rules}
 use Rattle.layout_validation.proofs.header.validate_identity.Goals as goal
 
 pub returns : goal.returns

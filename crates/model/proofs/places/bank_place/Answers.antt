@@ -1,7 +1,6 @@
 -- A bank stands where its offset leads; behind the last one the file ends.
 use Rattle.model.proofs.PlaceLaws.{bank-read, bank-last}
 use native.Mathlib.Omega.{arith}
-use borrow.Author.Rules.{rules}
 use Rattle.model.proofs.places.bank_place.Goals as goal
 
 pub returns-then-i-bank_count : goal.returns-then-i-bank_count

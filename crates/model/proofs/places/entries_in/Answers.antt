@@ -2,7 +2,6 @@
 use mathlib.Core.Path.{sym}
 use Rattle.model.proofs.PlaceLaws.{entries-read, entries_none}
 use native.Mathlib.Omega.{arith}
-use borrow.Author.Rules.{rules}
 use Rattle.model.proofs.places.entries_in.Goals as goal
 
 pub returns-then-i-bank_count : goal.returns-then-i-bank_count

@@ -3,7 +3,6 @@ use mathlib.Core.Path.{refl, ◌∙◌}
 use mathlib.Core.List.{append-nil}
 use Rattle.fields.specs.Bytes.{zeros, little_bytes}
 use Rattle.fields.proofs.Laws.{over-fresh}
-use borrow.Author.Rules.{rules}
 use Rattle.plan.proofs.numbers.bytes16.Goals as goal
 
 pub returns : goal.returns

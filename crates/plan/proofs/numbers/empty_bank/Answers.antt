@@ -3,7 +3,6 @@ use mathlib.Core.Path.{◌∙◌}
 use Rattle.fields.specs.Bytes.{zeros, little_bytes}
 use Rattle.fields.proofs.Laws.{over-fresh}
 use native.Mathlib.Omega.{arith}
-use borrow.Author.Rules.{rules}
 use Rattle.plan.proofs.numbers.empty_bank.Goals as goal
 
 pub returns : goal.returns

@@ -2,7 +2,6 @@
 use Rattle.renumber.proofs.Laws.{grown-more, grown-fewer, grown-none}
 use lib.Bits.{and_mask}
 use native.Mathlib.Omega.{arith}
-use borrow.Author.Rules.{rules}
 use Rattle.renumber.proofs.shift.grown.Goals as goal
 
 pub overflow_cast-result-in-More-2 : goal.overflow_cast-result-in-More-2

@@ -1,7 +1,6 @@
 -- Each arm answers as the definition's rule for it.
 use Rattle.renumber.proofs.Laws.{shift_none, raise-up, raise-stays, lower-down, lower-stays}
 use native.Mathlib.Omega.{arith}
-use borrow.Author.Rules.{rules}
 use Rattle.renumber.proofs.shift.shifted.Goals as goal
 
 pub returns-then-x-eq65535 : goal.returns-then-x-eq65535

@@ -2,7 +2,6 @@
 use lib.ListN.{length-take}
 use Rattle.undo.proofs.ExchangeLaws.{longer-valid, longer-bad}
 use native.Mathlib.Omega.{arith}
-use borrow.Author.Rules.{rules}
 use Rattle.undo.proofs.revert.revert_longer.Goals as goal
 
 pub slice_bounds-validity_of-end-2 : goal.slice_bounds-validity_of-end-2

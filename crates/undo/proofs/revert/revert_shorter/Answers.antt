@@ -2,7 +2,6 @@
 use lib.ListN.{length-take}
 use Rattle.undo.proofs.ExchangeLaws.{shorter-valid, shorter-bad}
 use native.Mathlib.Omega.{arith}
-use borrow.Author.Rules.{rules}
 use Rattle.undo.proofs.revert.revert_shorter.Goals as goal
 
 pub slice_bounds-validity_of-length : goal.slice_bounds-validity_of-length
