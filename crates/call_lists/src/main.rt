@@ -7,20 +7,18 @@ mod print; // print.rt: the line of a call
 use fields::numbers::{le32, le64};
 use m17::edition_of;
 use program_io::input::{LARGE, bytes, read_full};
-use std::alloc::Global;
-use std::io::{BufWriter, Read, Result, Write};
+use std::io::{Read, Result, Write};
 
 // Reads the room, the history and the calls of a list with these numbers (its length; the sizes of the three; the edition; the two lengths), makes the
 // calls, and answers whether there were any.
 fn with_numbers<R: Read, W: Write>(
-    alloc: Global,
     input: &mut R,
     out: &mut W,
     numbers: &[u8],
     room: &mut [u8],
     history: &mut [u8],
 ) -> Result<bool> {
-    let mut calls = vec![in alloc; 0u8; LARGE]?;
+    let mut calls = [0u8; LARGE];
     let n = bytes(input, le32(numbers, 4), room)?;
     let m = bytes(input, le32(numbers, 8), history)?;
     let k = bytes(input, le32(numbers, 12), &mut calls)?;
@@ -38,7 +36,6 @@ fn with_numbers<R: Read, W: Write>(
 
 // Whether there was a list. Past the end of the input every number is 0.
 fn one_list<R: Read, W: Write>(
-    alloc: Global,
     input: &mut R,
     out: &mut W,
     room: &mut [u8],
@@ -46,17 +43,16 @@ fn one_list<R: Read, W: Write>(
 ) -> Result<bool> {
     let mut numbers = [0u8; 36];
     read_full(input, &mut numbers)?;
-    with_numbers(alloc, input, out, &numbers, room, history)
+    with_numbers(input, out, &numbers, room, history)
 }
 
 fn main(rt: HostRuntime) -> Result<()> {
-    let alloc = rt.alloc();
     let mut input = rt.reader();
-    let mut out = BufWriter::new(alloc, rt.stdout())?;
-    let mut room = vec![in alloc; 0u8; LARGE]?;
-    let mut history = vec![in alloc; 0u8; LARGE]?;
+    let mut out = rt.stdout();
+    let mut room = [0u8; LARGE];
+    let mut history = [0u8; LARGE];
     for _ in 0..1_000_000 {
-        if !one_list(alloc, &mut input, &mut out, &mut room, &mut history)? {
+        if !one_list(&mut input, &mut out, &mut room, &mut history)? {
             break;
         }
     }

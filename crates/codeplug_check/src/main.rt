@@ -47,7 +47,7 @@ fn has_more<R: Read>(input: &mut R) -> Result<bool> {
 fn main(rt: HostRuntime) -> Result<()> {
     let mut input = rt.reader();
     let mut out = rt.stdout();
-    let mut buffer = vec![in rt.alloc(); 0u8; LARGE]?;
+    let mut buffer = [0u8; LARGE];
     let n = read_full(&mut input, &mut buffer)?;
     if has_more(&mut input)? {
         return print_refusal(&mut out, 1, 0);

@@ -7,7 +7,7 @@ mod print; // print.rt: numbers, and forms of several
 use layout::places::record_bytes;
 use program_io::input::{LARGE, case};
 use program_io::print::word;
-use std::io::{BufWriter, Read, Result, Write};
+use std::io::{Read, Result, Write};
 
 // Whether there was a case: a byte that says that it is a channel, one that says "read", and the record.
 fn one_case<R: Read, W: Write>(input: &mut R, out: &mut W, buffer: &mut [u8]) -> Result<bool> {
@@ -22,8 +22,8 @@ fn one_case<R: Read, W: Write>(input: &mut R, out: &mut W, buffer: &mut [u8]) ->
 
 fn main(rt: HostRuntime) -> Result<()> {
     let mut input = rt.reader();
-    let mut out = BufWriter::new(rt.alloc(), rt.stdout())?;
-    let mut buffer = vec![in rt.alloc(); 0u8; LARGE]?;
+    let mut out = rt.stdout();
+    let mut buffer = [0u8; LARGE];
     for _ in 0..1_000_000 {
         if !one_case(&mut input, &mut out, &mut buffer)? {
             break;

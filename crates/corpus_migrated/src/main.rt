@@ -6,7 +6,7 @@ mod print; // print.rt: the line of a case
 use fields::numbers::{byte_at, le32};
 use m17::{Edition, edition_of};
 use program_io::input::{LARGE, bytes, read_full};
-use std::io::{BufWriter, Read, Result, Write};
+use std::io::{Read, Result, Write};
 
 fn migrate<W: Write>(out: &mut W, file: &mut [u8], edition: Edition) -> Result<()> {
     let answer = migration::migrate(file, edition);
@@ -32,8 +32,8 @@ fn one_case<R: Read, W: Write>(input: &mut R, out: &mut W, buffer: &mut [u8]) ->
 
 fn main(rt: HostRuntime) -> Result<()> {
     let mut input = rt.reader();
-    let mut out = BufWriter::new(rt.alloc(), rt.stdout())?;
-    let mut buffer = vec![in rt.alloc(); 0u8; LARGE]?;
+    let mut out = rt.stdout();
+    let mut buffer = [0u8; LARGE];
     for _ in 0..1_000_000 {
         if !one_case(&mut input, &mut out, &mut buffer)? {
             break;

@@ -9,7 +9,7 @@ use layout::places::record_bytes;
 use m17::{Edition, Encoded, edition_of};
 use program_io::input::{LARGE, case};
 use program_io::print;
-use std::io::{BufWriter, Read, Result, Write};
+use std::io::{Read, Result, Write};
 use validation::Validated;
 
 fn validate<W: Write>(out: &mut W, file: &[u8], edition: Edition) -> Result<()> {
@@ -57,8 +57,8 @@ fn one_case<R: Read, W: Write>(input: &mut R, out: &mut W, buffer: &mut [u8]) ->
 
 fn main(rt: HostRuntime) -> Result<()> {
     let mut input = rt.reader();
-    let mut out = BufWriter::new(rt.alloc(), rt.stdout())?;
-    let mut buffer = vec![in rt.alloc(); 0u8; LARGE]?;
+    let mut out = rt.stdout();
+    let mut buffer = [0u8; LARGE];
     for _ in 0..1_000_000 {
         if !one_case(&mut input, &mut out, &mut buffer)? {
             break;

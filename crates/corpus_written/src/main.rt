@@ -16,7 +16,7 @@ use layout::places::record_bytes;
 use m17::{Decoded, Edition, edition_of};
 use program_io::input::case;
 use program_io::print::{refused, word};
-use std::io::{BufWriter, Read, Result, Write};
+use std::io::{Read, Result, Write};
 
 fn decoded<W: Write>(out: &mut W, d: Decoded) -> Result<()> {
     match d {
@@ -84,7 +84,7 @@ fn one_case<R: Read, W: Write>(
 
 fn main(rt: HostRuntime) -> Result<()> {
     let mut input = rt.reader();
-    let mut out = BufWriter::new(rt.alloc(), rt.stdout())?;
+    let mut out = rt.stdout();
     let mut buffer = [0u8; 4096];
     let mut scratch = [0u8; 4096];
     for _ in 0..1_000_000 {

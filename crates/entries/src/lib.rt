@@ -26,7 +26,7 @@ pub fn entry(s: &[u8], i: usize) -> EntryStep
 }
 
 // A bank's entry bytes and the place of the next entry.
-#[derive(Drop)]
+#[derive(Clone, Copy)]
 pub struct BankWalker<'a> {
     pub entries: &'a [u8],
     pub at: usize,

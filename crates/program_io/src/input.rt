@@ -1,5 +1,5 @@
-// Bytes read into buffers. The error is the first that a read gives.
-ghost use Rattle.std.specs.Prelude.{◌≡◌, ◌<◌, ◌≤◌, min, length, take, IfOk};
+// Bytes read into buffers. The only error is the first that a read gives; what was read before it stands in the buffer.
+ghost use Rattle.std.specs.Prelude.{◌≡◌, ◌<◌, ◌≤◌, min, length, take, IfErr, IfOk};
 ghost use Rattle.std.specs.Io.KnownBytes.{Consumes, IsAtEnd};
 
 use fields::numbers::le32;
@@ -13,6 +13,7 @@ pub fn read_full<R: Read>(input: &mut R, buffer: &mut [u8]) -> Result<usize>
     ensures bound { IfOk result (λ n. n ≤ length buffer.new) }
     ensures bytes { IfOk result (λ n. Consumes (R.remaining input.old) (R.remaining input.new) (take n buffer.new)) }
     ensures end { IfOk result (λ n. n < length buffer.new → IsAtEnd (R.remaining input.new)) }
+    ensures error { IfErr result (λ _. length buffer.new ≡ length buffer.old) }
 {
     let mut done = 0;
     while done < buffer.len() {
@@ -37,6 +38,7 @@ pub fn count(size: u32, buffer: &[u8]) -> usize
 pub fn bytes<R: Read>(input: &mut R, size: u32, buffer: &mut [u8]) -> Result<usize>
     ensures bound { IfOk result (λ n. n ≤ length buffer.new) }
     ensures value { IfOk result (λ n. n ≡ min size (length buffer.new)) }
+    ensures error { IfErr result (λ _. length buffer.new ≡ length buffer.old) }
 {
     let n = count(size, buffer);
     read_full(input, &mut buffer[..n])?;
@@ -46,7 +48,8 @@ pub fn bytes<R: Read>(input: &mut R, size: u32, buffer: &mut [u8]) -> Result<usi
 // Reads a case, a length of four bytes, low byte first, and then its bytes, into the start of a buffer, and answers how many bytes it
 // has; 0 where the input ends.
 pub fn case<R: Read>(input: &mut R, buffer: &mut [u8]) -> Result<usize>
-    ensures { IfOk result (λ n. n ≤ length buffer.new) }
+    ensures bound { IfOk result (λ n. n ≤ length buffer.new) }
+    ensures error { IfErr result (λ _. length buffer.new ≡ length buffer.old) }
 {
     let mut head = [0u8; 4];
     read_full(input, &mut head)?;
