@@ -17,11 +17,11 @@ fn with_numbers<R: Read, W: Write>(
     numbers: &[u8],
     room: &mut [u8],
     history: &mut [u8],
+    calls: &mut [u8],
 ) -> Result<bool> {
-    let mut calls = [0u8; LARGE];
     let n = bytes(input, le32(numbers, 4), room)?;
     let m = bytes(input, le32(numbers, 8), history)?;
-    let k = bytes(input, le32(numbers, 12), &mut calls)?;
+    let k = bytes(input, le32(numbers, 12), calls)?;
     calls::make(
         out,
         &calls[..k],
@@ -43,7 +43,8 @@ fn one_list<R: Read, W: Write>(
 ) -> Result<bool> {
     let mut numbers = [0u8; 36];
     read_full(input, &mut numbers)?;
-    with_numbers(input, out, &numbers, room, history)
+    let mut calls = [0u8; LARGE];
+    with_numbers(input, out, &numbers, room, history, &mut calls)
 }
 
 fn main(rt: HostRuntime) -> Result<()> {
