@@ -1,6 +1,8 @@
 // Bytes read into buffers. The only error is the first that a read gives; what was read before it stands in the buffer.
-ghost use Rattle.std.specs.Prelude.{◌≡◌, ◌<◌, ◌≤◌, min, length, take, IfErr, IfOk};
+ghost use Rattle.std.specs.Prelude.{◌≡◌, ◌<◌, ◌≤◌, min, length, take, drop, IfErr, IfOk, IfSome};
 ghost use Rattle.std.specs.Io.KnownBytes.{Consumes, IsAtEnd};
+ghost use Rattle.fields.specs.Bytes.{num};
+ghost use Rattle.program_io.specs.Reading.{Fills};
 
 use fields::numbers::le32;
 use std::io::{Read, Result};
@@ -38,6 +40,8 @@ pub fn count(size: u32, buffer: &[u8]) -> usize
 pub fn bytes<R: Read>(input: &mut R, size: u32, buffer: &mut [u8]) -> Result<usize>
     ensures bound { IfOk result (λ n. n ≤ length buffer.new) }
     ensures value { IfOk result (λ n. n ≡ min size (length buffer.new)) }
+    ensures read { IfOk result (λ n. Fills (R.remaining input.old) (R.remaining input.new) n buffer.new) }
+    ensures rest { drop (min size (length buffer.old)) buffer.new ≡ drop (min size (length buffer.old)) buffer.old }
     ensures error { IfErr result (λ _. length buffer.new ≡ length buffer.old) }
 {
     let n = count(size, buffer);
@@ -49,6 +53,8 @@ pub fn bytes<R: Read>(input: &mut R, size: u32, buffer: &mut [u8]) -> Result<usi
 // has; 0 where the input ends.
 pub fn case<R: Read>(input: &mut R, buffer: &mut [u8]) -> Result<usize>
     ensures bound { IfOk result (λ n. n ≤ length buffer.new) }
+    ensures value { IfOk result (λ n. IfSome (R.remaining input.old) (λ xs. 4 ≤ length xs → n ≡ min (num xs 0 4) (length buffer.new))) }
+    ensures read { IfOk result (λ n. IfSome (R.remaining input.old) (λ xs. 4 ≤ length xs → Fills (Some (drop 4 xs)) (R.remaining input.new) n buffer.new)) }
     ensures error { IfErr result (λ _. length buffer.new ≡ length buffer.old) }
 {
     let mut head = [0u8; 4];

@@ -1,6 +1,9 @@
 // Words, numbers and bytes, as lines have them. The error is the first that a write gives.
-ghost use Rattle.std.specs.Prelude.{◌<◌, ◌++◌, codes, decimal, OnOk};
+ghost use Rattle.std.specs.Prelude.{◌≡◌, ◌<◌, ◌++◌, codes, decimal, length, OnOk};
 ghost use Rattle.std.specs.Io.KnownBytes.{Appends};
+ghost use Rattle.fields.specs.Bytes.{part};
+ghost use Rattle.text.specs.Text.{text_of};
+ghost use Rattle.program_io.specs.Lines.{hex_byte, hex_bytes, hex_or_hyphen, checksum_from};
 
 use layout::places::record_bytes;
 use std::io::{Result, Write};
@@ -28,25 +31,44 @@ pub fn refused<W: Write>(out: &mut W, n: u8, place: usize) -> Result<()>
 }
 
 // Two digits for each byte, or a hyphen for no bytes.
-pub fn bytes<W: Write>(out: &mut W, s: &[u8]) -> Result<()> {
-    if s.is_empty() {
+pub fn bytes<W: Write>(out: &mut W, s: &[u8]) -> Result<()>
+    ensures { OnOk result (Appends (W.contents out.old) (W.contents out.new) (hex_or_hyphen s.now)) }
+{
+    if s.len() == 0 {
         return word(out, b"-");
     }
+    digits(out, s)
+}
+
+fn digits<W: Write>(out: &mut W, s: &[u8]) -> Result<()>
+    ensures { OnOk result (Appends (W.contents out.old) (W.contents out.new) (hex_bytes s.now)) }
+{
     for b in s {
-        write!(out, "{:02x}", *b)?;
+        two_digits(out, *b)?;
     }
     Ok(())
 }
 
+#[tactic(auto, using(std::proofs::lemmas::Fmt::hex_byte))]
+fn two_digits<W: Write>(out: &mut W, b: u8) -> Result<()>
+    ensures { OnOk result (Appends (W.contents out.old) (W.contents out.new) (hex_byte b)) }
+{
+    write!(out, "{b:02x}")
+}
+
 // A text field's bytes without its padding.
-pub fn text<W: Write>(out: &mut W, label: &[u8], field: &[u8]) -> Result<()> {
+pub fn text<W: Write>(out: &mut W, label: &[u8], field: &[u8]) -> Result<()>
+    ensures { OnOk result (Appends (W.contents out.old) (W.contents out.new)
+        (label.now ++ hex_or_hyphen (part field.now 0 (length (text_of field.now))))) }
+{
     word(out, label)?;
     bytes(out, record_bytes(field, 0, text_length(field)))
 }
 
 // A sum that tells buffers apart.
 pub fn checksum(s: &[u8]) -> u64
-    ensures { result < 2147483647 }
+    ensures value { result ≡ checksum_from 0 s.now }
+    ensures bound { result < 2147483647 }
 {
     let mut h = 0u64;
     for b in s {

@@ -1,0 +1,2 @@
+-- Laws on how bytes stand in a line.
+pub mod LineLaws
