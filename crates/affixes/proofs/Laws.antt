@@ -2,13 +2,12 @@
 use Prim.Native.Nat.{ℕ, suc, ◌+◌, ◌-◌, ◌≤◌, ◌<◌}
 use mathlib.Core.Path.{◌≡◌, refl, ap, sym, ◌∙◌}
 use mathlib.Core.Bool.{Bool, true, false}
-use mathlib.Core.Logic.{◌⊎◌, ⊎_elim}
 use mathlib.Core.List.{List, [], ◌∷◌, ◌++◌, append_assoc, reverse, reverse-append, reverse-cons, reverse-reverse}
 use native.Mathlib.Omega.{arith}
 use native.Mathlib.Numerals.{add-one, one-add}
-use native.Mathlib.Nat.{zero-add, suc-add, sub-zero, sub_right_comm}
+use native.Mathlib.Nat.{zero-add, suc-add, sub_right_comm}
 use lib.ListN.{length, get_or, take, drop, length-drop, length-reverse, take-append-drop}
-use lib.Seq.{take_at, take-add, take-suc, take-length, length-take-le, drop-drop, drop-cons}
+use lib.Seq.{take_at, take-add, take-suc, drop-drop, drop-cons}
 use lib.Seq.{split_at, get_or_at}
 use lib.Bits.{bit_or, bit_xor, or_add_and, xor_add_and, and_le_l, and_le_r}
 use lib.Dec.{eqb}
@@ -42,11 +41,6 @@ pub same-all : (a b : List ℕ) (i j n k x : ℕ) → (x ≡ 0 → part a i k �
 same-all a b i j n k x f g e = rw (← g) (f (eqb-true x 0 e))
 
 -- ---- the common beginning
-
-pub common_prefix-nil : (a : List ℕ) → common_prefix a [] ≡ 0
-unfolding common_prefix
-common_prefix-nil [] = refl
-common_prefix-nil (x ∷ a) = refl
 
 -- the clauses, as equations
 pub common_prefix-same : (x y : ℕ) (a b : List ℕ) → x ≡ y → common_prefix (x ∷ a) (y ∷ b) ≡ suc (common_prefix a b)
@@ -135,16 +129,6 @@ pub start-byte : (a b : List ℕ) (i : ℕ) → common_prefix a b ≡ i + common
     → get_or a i 0 ≡ get_or b i 0 → common_prefix a b ≡ i + 1 + common_prefix (drop (i + 1) a) (drop (i + 1) b)
 start-byte a b i e f g h = start-more a b i 1 e (same-one a b i i f g h) (omega arith)
 
--- one of the two has ended
-pub start-end : (a b : List ℕ) (i : ℕ) → common_prefix a b ≡ i + common_prefix (drop i a) (drop i b) → i ≤ length a → i ≤ length b
-    → (length a ≤ i) ⊎ (length b ≤ i) → i ≡ common_prefix a b
-start-end a b i e f g h =
-    let l = common_prefix-left (drop i a) (drop i b) in
-    let r = common_prefix-right (drop i a) (drop i b) in
-    let m = length-drop i a in
-    let n = length-drop i b in
-    ⊎_elim (λ w. omega arith) (λ w. omega arith) h
-
 -- two bytes differ
 pub start-stop : (a b : List ℕ) (i : ℕ) → common_prefix a b ≡ i + common_prefix (drop i a) (drop i b) → i < length a → i < length b
     → (get_or a i 0 ≡ get_or b i 0 → ⊥) → i ≡ common_prefix a b
@@ -224,10 +208,6 @@ pub common_suffix-self : (a : List ℕ) → common_suffix a a ≡ length a
 unfolding common_suffix
 common_suffix-self a = common_prefix-self (reverse a) ∙ length-reverse a
 
--- the scan: nothing read yet, m more bytes agree
-pub end_none : (a b : List ℕ) → common_suffix a b ≡ 0 + common_suffix (take (length a - 0) a) (take (length b - 0) b)
-end_none a b = rw (sub-zero (length a), sub-zero (length b), take-length a, take-length b) (sym (zero-add (common_suffix a b)))
-
 pub end_more : (a b : List ℕ) (i m : ℕ) → common_suffix a b ≡ i + common_suffix (take (length a - i) a) (take (length b - i) b)
     → part a (length a - i - m) m ≡ part b (length b - i - m) m → i + m ≤ length a → i + m ≤ length b
     → common_suffix a b ≡ i + m + common_suffix (take (length a - (i + m)) a) (take (length b - (i + m)) b)
@@ -258,16 +238,6 @@ end-byte a b i e f g h =
     let y = length b - i - 1 in
     let s : get_or a x 0 ≡ get_or b y 0 = rw (sub_right_comm (length a) 1 i, sub_right_comm (length b) 1 i) at h in
     end_more a b i 1 e (same-one a b x y (last-inside (length a) i f) (last-inside (length b) i g) s) (omega arith) (omega arith)
-
--- one of the two has ended
-pub end-end : (a b : List ℕ) (i : ℕ) → common_suffix a b ≡ i + common_suffix (take (length a - i) a) (take (length b - i) b)
-    → i ≤ length a → i ≤ length b → (length a ≤ i) ⊎ (length b ≤ i) → i ≡ common_suffix a b
-end-end a b i e f g h =
-    let l = common_suffix-left (take (length a - i) a) (take (length b - i) b) in
-    let r = common_suffix-right (take (length a - i) a) (take (length b - i) b) in
-    let m : length (take (length a - i) a) ≡ length a - i = length-take-le (length a - i) a (omega arith) in
-    let n : length (take (length b - i) b) ≡ length b - i = length-take-le (length b - i) b (omega arith) in
-    ⊎_elim (λ w. omega arith) (λ w. omega arith) h
 
 -- the ending of two lists whose last bytes differ
 common_suffix-differ : (a b : List ℕ) (x y : ℕ) → (x ≡ y → ⊥) → common_suffix (a ++ (x ∷ [])) (b ++ (y ∷ [])) ≡ 0

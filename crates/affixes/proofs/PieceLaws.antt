@@ -2,13 +2,16 @@
 use Prim.Native.Nat.{ℕ, suc, ◌+◌, ◌-◌, ◌≤◌, ◌<◌}
 use mathlib.Core.Path.{◌≡◌, refl, ap, sym, ◌∙◌}
 use mathlib.Core.Bool.{Bool, true, false}
-use mathlib.Core.List.{List, [], ◌∷◌, ◌++◌, reverse, reverse-append}
+use mathlib.Core.List.{List, [], ◌∷◌, ◌++◌, reverse, reverse-append, append-nil}
 use native.Mathlib.Omega.{arith}
 use native.Mathlib.Nat.{zero-add}
-use lib.ListN.{length, take, drop, length-reverse, length-drop, take-append-drop}
-use lib.Seq.{drop_at, length-take-le}
+use lib.ListN.{length, get_or, take, drop, length-reverse, length-drop, take-append-drop}
+use lib.Seq.{drop_at, length-take-le, take-take, take-suc}
 use lib.Dec.{eqb}
 use borrow.Author.Tests.{eqb-true, eqb-false}
+use denote.Ref.{Bor}
+use Rattle.std.specs.List.{flat_map}
+use Rattle.std.proofs.lemmas.Grind.{flat_map-append}
 use Rattle.affixes.specs.Common.{common_prefix, common_suffix}
 use Rattle.affixes.proofs.Laws.{common_prefix-same, common_prefix-differ, common_suffix-left, common_suffix-right}
 
@@ -94,3 +97,42 @@ pub piece-fits : (s a : List ℕ) (e r : ℕ) → e ≤ length s → r ≡ commo
 piece-fits s a e r h g =
     let l : length (take (length s - e) s) ≡ length s - e = length-take-le (length s - e) s (omega arith) in
     omega (arith, common_suffix-left (take (length s - e) s) a)
+
+-- ---- piece after piece, from the last one on
+
+-- e bytes of s agree with the end of w, and k more with x, the last of the pieces that are left; rest are those before it
+pub record Turn (s w rest x : List ℕ) (e k : ℕ) : Type 0 where
+  pub room : e + k ≤ length s
+  pub stops : k < length x → e + k ≡ common_suffix s w
+  pub goes : length x ≤ k → common_suffix s w ≡ e + k + common_suffix (take (length s - (e + k)) s) rest
+
+pub turn : (s w left rest x : List ℕ) (e k : ℕ) → e ≤ length s → common_suffix s w ≡ e + common_suffix (take (length s - e) s) left
+    → left ≡ rest ++ x → k ≡ common_suffix (take (length s - e) s) x → Turn s w rest x e k
+turn s w left rest x e k he inv el ek =
+    let t = take (length s - e) s in
+    let lt : length t ≡ length s - e = length-take-le (length s - e) s (omega arith) in
+    let room : k ≤ length t = piece-left t x k ek in
+    let n : length s - e - k ≡ length s - (e + k) = omega arith in
+    let m : take (length t - k) t ≡ take (length s - (e + k)) s =
+    rw (lt, n) (take-take (length s - (e + k)) (length s - e) s (omega arith))
+    in
+    record {
+      room = omega arith;
+      stops = λ h. omega (arith, piece-stops t left rest x k el ek h);
+      goes = λ h. omega (arith, piece-goes t left rest x k (common_suffix (take (length s - (e + k)) s) rest) el ek h (rw m));
+    }
+
+pub turn-done : (s w : List ℕ) (e : ℕ) → common_suffix s w ≡ e + common_suffix (take (length s - e) s) [] → e ≡ common_suffix s w
+turn-done s w e h = omega (arith, common_suffix-right (take (length s - e) s) [])
+
+-- the bytes of all pieces
+abbrev pub joined : List (Bor (List ℕ)) → List ℕ
+joined ps = flat_map (λ (p : Bor (List ℕ)). p.now) ps
+
+pub joined-last : (ps : List (Bor (List ℕ))) (i : ℕ) (d : Bor (List ℕ)) → 0 < i → i ≤ length ps
+    → joined (take i ps) ≡ joined (take (i - 1) ps) ++ (get_or ps (i - 1) d).now
+joined-last ps i d h g =
+    let j : i ≡ suc (i - 1) = omega arith in
+    let f : i - 1 < length ps = omega arith in
+    ap (λ (n : ℕ). joined (take n ps)) j
+    ∙ rw (take-suc ps (i - 1) d f, flat_map-append (λ (p : Bor (List ℕ)). p.now) (take (i - 1) ps) (get_or ps (i - 1) d ∷ []), append-nil)

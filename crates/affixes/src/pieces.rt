@@ -1,35 +1,22 @@
 // The common ending of a byte slice and a list that is given in pieces.
-ghost use Rattle.std.specs.Prelude.{◌≡◌, ◌++◌};
+ghost use Rattle.std.specs.Prelude.{◌≡◌};
 ghost use Rattle.affixes.specs.Common.{common_suffix};
+ghost use Rattle.std.specs.List.{flat_map};
 
 use crate::common_suffix;
 
-fn common_suffix2(s: &[u8], a: &[u8], b: &[u8]) -> usize
-    ensures { result ≡ common_suffix s.now (a.now ++ b.now) }
+// The pieces are compared from the last one on, each as long as all of the one behind it agrees.
+pub fn common_suffix_pieces(s: &[u8], pieces: &[&[u8]]) -> usize
+    ensures { result ≡ common_suffix s.now (flat_map (λ p. p.now) pieces.now) }
 {
-    let e = common_suffix(s, b);
-    if e < b.len() {
-        return e;
+    let mut e = 0;
+    for i in (0..pieces.len()).rev() {
+        let piece = pieces[i];
+        let same = common_suffix(&s[..s.len() - e], piece);
+        e += same;
+        if same < piece.len() {
+            return e;
+        }
     }
-    e + common_suffix(&s[..s.len() - e], a)
-}
-
-pub fn common_suffix3(s: &[u8], a: &[u8], b: &[u8], c: &[u8]) -> usize
-    ensures { result ≡ common_suffix s.now (a.now ++ (b.now ++ c.now)) }
-{
-    let e = common_suffix(s, c);
-    if e < c.len() {
-        return e;
-    }
-    e + common_suffix2(&s[..s.len() - e], a, b)
-}
-
-pub fn common_suffix4(s: &[u8], a: &[u8], b: &[u8], c: &[u8], d: &[u8]) -> usize
-    ensures { result ≡ common_suffix s.now (a.now ++ (b.now ++ (c.now ++ d.now))) }
-{
-    let e = common_suffix(s, d);
-    if e < d.len() {
-        return e;
-    }
-    e + common_suffix3(&s[..s.len() - e], a, b, c)
+    e
 }

@@ -1,18 +1,17 @@
 -- Bytes that hold more than one value, and signed bytes: each pair of functions undoes the other on what a byte can hold.
 -- By arithmetic alone. Assumes nothing.
-use mathlib.Core.Path.{◌≡◌, refl, sym, ap, ◌∙◌}
-use mathlib.Core.Bool.{Bool, true, false, ◌&&◌, cond, true≢false, false≢true}
+use mathlib.Core.Path.{◌≡◌, refl}
+use mathlib.Core.Bool.{Bool, true, false, ◌&&◌, cond}
 use Prim.Native.Nat.{ℕ, zero, suc, ◌+◌, ◌-◌, ◌*◌, ◌/◌, ◌%◌, ◌^◌, ◌<◌, ◌≤◌}
-use native.Mathlib.Nat.{mod-eq_of_lt, zero-add}
+use native.Mathlib.Nat.{mod-eq_of_lt}
 use native.Mathlib.Omega.{arith}
 use lib.Bits.{bit_or, or_shifted}
-use lib.Dec.{T, leb, ltb, eqb, leb-zero}
-use lib.IntN.{ℤ, pos, negsuc, ◌-ℤ◌, nat_abs}
-use lib.Signed.{le_z, non_neg, mag}
+use lib.Dec.{leb, ltb, eqb}
+use lib.IntN.{ℤ, pos, negsuc}
 use mir.Syntax.{w8}
-use mir.Val.{Fits, SFits, to_z, of_z}
-use mir.ValLaws.{to_z-of_z}
+use mir.Val.{SFits}
 use borrow.Author.Tests.{ltb-true, ltb-false, leb-true, eqb-true, lt-ltb, le-ltb, le-leb, eq-eqb}
+use Rattle.std.proofs.lemmas.Bool.{and_parts, and_from}
 use Rattle.bits.specs.declared.NumberFlag.{NumberFlag}
 use Rattle.bits.specs.declared.Nibbles.{Nibbles}
 use Rattle.bits.specs.Packed.{number_flag_of, number_flag_byte, number_flag_ok, number_flag_valid, nibbles_of, nibbles_byte, nibbles_valid, signed_of, signed_byte}
@@ -20,15 +19,13 @@ use Rattle.bits.specs.Packed.{number_flag_of, number_flag_byte, number_flag_ok, 
 -- ---- tests
 
 pub and_left : (a b : Bool) → a && b ≡ true → a ≡ true
-and_left true b h = refl
-and_left false b h = h
+and_left a b h = (and_parts a b h).0
 
 pub and_right : (a b : Bool) → a && b ≡ true → b ≡ true
-and_right true b h = h
-and_right false b h = absurd (false≢true h)
+and_right a b h = (and_parts a b h).1
 
 pub and_both : (a b : Bool) → a ≡ true → b ≡ true → a && b ≡ true
-and_both a b p q = rw (p, q)
+and_both = and_from
 
 -- ---- packing: a number shifted by k, and one of k bits under it
 
@@ -172,58 +169,3 @@ pub signed_byte-lt : (z : ℤ) → i8_range z → signed_byte z < 256
 unfolding signed_byte
 signed_byte-lt (pos n) r = omega arith
 signed_byte-lt (negsuc n) r = omega arith
-
--- ---- what the code computes of a signed byte
-
--- -1 - n
-pub minus_one : (n : ℕ) → negsuc 0 -ℤ pos n ≡ negsuc n
-minus_one zero = refl
-minus_one (suc n) = ap (λ (k : ℕ). negsuc (suc k)) (zero-add n)
-
--- from 0 up
-up-cast : (z : ℤ) → SFits w8 z → le_z (pos 0) z ≡ true → T (non_neg z) × Fits w8 (nat_abs z)
-up-cast (pos n) f t = (tt, record { fits = omega (arith, f.sfits) })
-up-cast (negsuc n) f t = absurd (false≢true t)
-
-up-byte : (z : ℤ) → le_z (pos 0) z ≡ true → nat_abs z ≡ signed_byte z
-unfolding signed_byte
-up-byte (pos n) t = refl
-up-byte (negsuc n) t = absurd (false≢true t)
-
--- below 0
-down : (z : ℤ) → le_z (pos 0) z ≡ false → negsuc 0 -ℤ z ≡ pos (mag z)
-down (pos n) t = absurd (true≢false (sym (leb-zero n) ∙ t))
-down (negsuc n) t =
-    let e : suc n - 1 ≡ n = omega arith in
-    rw (le-ltb (suc n) 1 (omega arith), e)
-
-down-byte : (z : ℤ) → le_z (pos 0) z ≡ false → 255 - mag z ≡ signed_byte z
-unfolding signed_byte
-down-byte (pos n) t = absurd (true≢false (sym (leb-zero n) ∙ t))
-down-byte (negsuc n) t = refl
-
--- the code reads a signed number from its bits
-abbrev read : ℤ → ℤ
-read z = to_z w8 (of_z w8 z)
-
-module _ (z : ℤ) (f : SFits w8 z) where
-  pub up_fits : le_z (pos 0) (read z) ≡ true → T (non_neg (read z)) × Fits w8 (nat_abs (read z))
-  up_fits t = rw (to_z-of_z w8 z f) (up-cast z f (rw (to_z-of_z w8 z f) at t))
-
-  pub up_is : le_z (pos 0) (read z) ≡ true → nat_abs (read z) ≡ signed_byte z
-  up_is t = rw (to_z-of_z w8 z f) (up-byte z (rw (to_z-of_z w8 z f) at t))
-
-  pub down_fits : le_z (pos 0) (read z) ≡ false → SFits w8 (negsuc 0 -ℤ read z)
-  down_fits t = rw (down (read z) t, to_z-of_z w8 z f) (record { sfits = f.sfits })
-
-  down-read : le_z (pos 0) (read z) ≡ false → read (negsuc 0 -ℤ read z) ≡ pos (mag z)
-  down-read t = rw (to_z-of_z w8 (negsuc 0 -ℤ read z) (down_fits t), down (read z) t, to_z-of_z w8 z f)
-
-  pub down-cast : le_z (pos 0) (read z) ≡ false → T (non_neg (read (negsuc 0 -ℤ read z))) × Fits w8 (nat_abs (read (negsuc 0 -ℤ read z)))
-  down-cast t = rw (down-read t) (tt, record { fits = omega (arith, f.sfits) })
-
-  pub down_lt : le_z (pos 0) (read z) ≡ false → nat_abs (read (negsuc 0 -ℤ read z)) < 128
-  down_lt t = rw (down-read t) f.sfits
-
-  pub down_is : le_z (pos 0) (read z) ≡ false → 255 - nat_abs (read (negsuc 0 -ℤ read z)) ≡ signed_byte z
-  down_is t = rw (down-read t) (down-byte z (rw (to_z-of_z w8 z f) at t))

@@ -4,10 +4,12 @@ ghost use Rattle.std.specs.Prelude.{◌≤◌, ◌<◌, ◌^◌, length};
 use crate::print;
 use editor::edit;
 use fields::numbers::{byte_at, le64};
-use journal::answer::Answer;
+use format::refusals::Refusal;
+use journal::answer::Done;
 use layout::places::record_bytes;
 use m17::Edition;
-use std::io::{Result, Write};
+use std::io;
+use std::io::Write;
 use undo::undo;
 
 // The first call of s: an undo, or an edit with its kind, places and record.
@@ -18,7 +20,7 @@ fn call(
     history: &mut [u8],
     used: usize,
     edition: Edition,
-) -> Answer {
+) -> Result<Done, Refusal> {
     if byte_at(s, 0) == 0 {
         return undo(room, len, history, used, edition);
     }
@@ -41,22 +43,6 @@ fn call_size(s: &[u8]) -> usize
     26 + byte_at(s, 25) as usize
 }
 
-// The codeplug's length after a call: as before where it was refused.
-fn length_after(a: Answer, len: usize) -> usize {
-    match a {
-        Answer::Done(n, _, _) => n,
-        Answer::Refused(_, _) => len,
-    }
-}
-
-// The history's.
-fn used_after(a: Answer, used: usize) -> usize {
-    match a {
-        Answer::Done(_, n, _) => n,
-        Answer::Refused(_, _) => used,
-    }
-}
-
 // Makes the calls that a list's bytes hold, by one edition.
 pub(crate) fn make<W: Write>(
     out: &mut W,
@@ -66,9 +52,10 @@ pub(crate) fn make<W: Write>(
     history: &mut [u8],
     history_length: usize,
     edition: Edition,
-) -> Result<()>
+) -> io::Result<()>
     requires { length calls.now < 2 ^ 32 }
 {
+    // No `for`: a call says how many bytes it takes.
     let mut k = 0;
     let mut len = room_length;
     let mut used = history_length;
@@ -76,8 +63,10 @@ pub(crate) fn make<W: Write>(
         let s = &calls[k..];
         let answer = call(s, room, len, history, used, edition);
         print::line(out, answer, room, history)?;
-        len = length_after(answer, len);
-        used = used_after(answer, used);
+        if let Ok(done) = answer {
+            len = done.len;
+            used = done.used;
+        }
         k += call_size(s);
     }
     Ok(())

@@ -7,7 +7,8 @@ mod print; // print.rt: the line of a call
 use fields::numbers::{le32, le64};
 use m17::edition_of;
 use program_io::input::{LARGE, bytes, read_full};
-use std::io::{Read, Result, Write};
+use std::io;
+use std::io::{Read, Write};
 
 // Reads the room, the history and the calls of a list with these numbers (its length; the sizes of the three; the edition; the two lengths), makes the
 // calls, and answers whether there were any.
@@ -18,7 +19,7 @@ fn with_numbers<R: Read, W: Write>(
     room: &mut [u8],
     history: &mut [u8],
     calls: &mut [u8],
-) -> Result<bool> {
+) -> io::Result<bool> {
     let n = bytes(input, le32(numbers, 4), room)?;
     let m = bytes(input, le32(numbers, 8), history)?;
     let k = bytes(input, le32(numbers, 12), calls)?;
@@ -40,14 +41,14 @@ fn one_list<R: Read, W: Write>(
     out: &mut W,
     room: &mut [u8],
     history: &mut [u8],
-) -> Result<bool> {
+) -> io::Result<bool> {
     let mut numbers = [0u8; 36];
     read_full(input, &mut numbers)?;
     let mut calls = [0u8; LARGE];
     with_numbers(input, out, &numbers, room, history, &mut calls)
 }
 
-fn main(rt: HostRuntime) -> Result<()> {
+fn main(rt: HostRuntime) -> io::Result<()> {
     let mut input = rt.reader();
     let mut out = rt.stdout();
     let mut room = [0u8; LARGE];

@@ -1,21 +1,28 @@
 // The line of a call.
-use journal::answer::Answer;
-use program_io::print::{checksum, number, refused, word};
-use std::io::{Result, Write};
+use format::refusals::Refusal;
+use journal::answer::Done;
+use program_io::print::{checksum, number, word};
+use std::io;
+use std::io::Write;
 
-fn words<W: Write>(out: &mut W, a: Answer) -> Result<()> {
+fn words<W: Write>(out: &mut W, a: Result<Done, Refusal>) -> io::Result<()> {
     match a {
-        Answer::Done(len, used, entries) => {
-            number(out, b"done ", len as u64)?;
-            number(out, b" ", used as u64)?;
-            number(out, b" ", entries as u64)
+        Ok(done) => {
+            number(out, b"done ", done.len as u64)?;
+            number(out, b" ", done.used as u64)?;
+            number(out, b" ", done.entries as u64)
         }
-        Answer::Refused(n, place) => refused(out, n, place),
+        Err(refusal) => write!(out, "{refusal}"),
     }
 }
 
 // A call's answer, and both whole buffers after it.
-pub(crate) fn line<W: Write>(out: &mut W, a: Answer, room: &[u8], history: &[u8]) -> Result<()> {
+pub(crate) fn line<W: Write>(
+    out: &mut W,
+    a: Result<Done, Refusal>,
+    room: &[u8],
+    history: &[u8],
+) -> io::Result<()> {
     words(out, a)?;
     number(out, b" room ", checksum(room))?;
     number(out, b" history ", checksum(history))?;

@@ -13,7 +13,7 @@ use m17::edition_of;
 pub fn codeplug_validate_legacy(file: &[u8], edition: u32) -> ValidateAnswer
     ensures { result ≡ validate_answer (legacy_validation (edition_of edition) file.now) }
 {
-    capi_convert::files::validate_answer(legacy_validation::validate(file, edition_of(edition)))
+    legacy_validation::validate(file, edition_of(edition)).into()
 }
 
 // The same answer; an accepted file is migrated, a refused one stays as lent.
@@ -21,5 +21,5 @@ pub fn codeplug_migrate(file: &mut [u8], edition: u32) -> ValidateAnswer
     ensures { (result ≡ validate_answer (legacy_validation (edition_of edition) file.old))
         × (file.new ≡ migrated_by (legacy_file_rule (edition_of edition) file.old) file.old) }
 {
-    capi_convert::files::validate_answer(migration::migrate(file, edition_of(edition)))
+    migration::migrate(file, edition_of(edition)).into()
 }

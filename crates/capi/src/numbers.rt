@@ -11,7 +11,7 @@ use m17::edition_of;
 pub fn codeplug_encode_callsign(text: &[u8], edition: u32) -> capi_numbers::EncodeAnswer
     ensures { result ≡ encode_answer (encoding (edition_of edition) text.now) }
 {
-    capi_numbers::encode_answer(m17_encoder::encode(text, edition_of(edition)))
+    m17_encoder::encode(text, edition_of(edition)).into()
 }
 
 // An address number's text, into the first nine bytes of the buffer, and its length; broadcast has none.
@@ -22,7 +22,7 @@ pub fn codeplug_decode_address(
 ) -> capi_numbers::DecodeAnswer
     ensures { (result ≡ decode_answer (decoding (edition_of edition) (length out.old) address)) × (out.new ≡ decoded_into (edition_of edition) out.old address) }
 {
-    capi_numbers::decode_answer(m17_decoder::decode(address, out, edition_of(edition)))
+    m17_decoder::decode(address, out, edition_of(edition)).into()
 }
 
 // The frequency of a tone, in tenths of a hertz; 0 past the table.

@@ -18,10 +18,11 @@ use m17::edition_of;
 pub fn codeplug_validate(file: &[u8], edition: u32) -> ValidateAnswer
     ensures { result ≡ validate_answer (validation (edition_of edition) file.now) }
 {
-    capi_convert::files::validate_answer(validation::validate(file, edition_of(edition)))
+    validation::validate(file, edition_of(edition)).into()
 }
 
 // The header's numbers; author and description, 32 bytes each, go into the first 64 bytes of the buffer.
+#[tactic(auto, unfolding(codeplug::specs::Read::header_read))]
 pub fn codeplug_header(file: &[u8], texts: &mut [u8], edition: u32) -> HeaderAnswer
     ensures { HeaderOut (header_read (edition_of edition) file.now) texts.old result texts.new }
 {
@@ -89,17 +90,12 @@ pub fn codeplug_bank_prevalidated(file: &[u8], n: usize, name: &mut [u8]) -> Ban
 pub fn codeplug_bank_entry(file: &[u8], bank: usize, i: usize, edition: u32) -> BankEntryAnswer
     ensures { result ≡ entry_to_c (entry_read (edition_of edition) file.now bank i) }
 {
-    capi_convert::files::bank_entry_answer(codeplug::bank_entries::entry(
-        file,
-        bank,
-        i,
-        edition_of(edition),
-    ))
+    codeplug::bank_entries::entry(file, bank, i, edition_of(edition)).into()
 }
 
 // The same of a file that was validated before, without validating it again.
 pub fn codeplug_bank_entry_prevalidated(file: &[u8], bank: usize, i: usize) -> BankEntryAnswer
     ensures { result ≡ entry_to_c (entry_step (entries_prevalidated file.now bank) i) }
 {
-    capi_convert::files::bank_entry_answer(entries::walked(prevalidated::entries(file, bank), i))
+    entries::walked(prevalidated::entries(file, bank), i).into()
 }

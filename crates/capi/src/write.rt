@@ -12,7 +12,7 @@ pub fn codeplug_write_contact(
     name: &[u8],
     values: capi_numbers::ContactValues,
     edition: u32,
-) -> capi_numbers::Refusal
+) -> capi_numbers::RefusalAnswer
     ensures { ContactFromC (edition_of edition) out.old name.now values result out.new }
 {
     capi_write::contacts::write(out, name, values, edition_of(edition))
@@ -25,21 +25,21 @@ pub fn codeplug_write_channel(
     description: &[u8],
     common: channel::Common,
     info: capi_numbers::ChannelInfo,
-) -> capi_numbers::Refusal
+) -> capi_numbers::RefusalAnswer
     ensures { ChannelFromC out.old name.now description.now common info result out.new }
 {
     capi_write::channels::write(out, name, description, common, info)
 }
 
 // Writes a text field's 32 bytes.
-pub fn codeplug_write_text(out: &mut [u8], text: &[u8]) -> capi_numbers::Refusal
+pub fn codeplug_write_text(out: &mut [u8], text: &[u8]) -> capi_numbers::RefusalAnswer
     ensures { TextFromC out.old text.now result out.new }
 {
     capi_write::texts::write(out, text)
 }
 
 // Writes the empty codeplug's 88 bytes.
-pub fn codeplug_write_empty(out: &mut [u8]) -> capi_numbers::Refusal
+pub fn codeplug_write_empty(out: &mut [u8]) -> capi_numbers::RefusalAnswer
     ensures { EmptyToC out.old result out.new }
 {
     capi_write::texts::write_empty(out)

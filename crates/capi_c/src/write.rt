@@ -11,7 +11,7 @@ pub extern "C" fn codeplug_write_contact(
     name: &[u8],
     values: capi_numbers::ContactValues,
     edition: u32,
-) -> capi_numbers::Refusal
+) -> capi_numbers::RefusalAnswer
     ensures { ContactFromC (edition_of edition) out.old name.now values result out.new }
 {
     capi::write::codeplug_write_contact(out, name, values, edition)
@@ -25,7 +25,7 @@ pub extern "C" fn codeplug_write_channel(
     description: &[u8],
     common: channel::Common,
     info: capi_numbers::ChannelInfo,
-) -> capi_numbers::Refusal
+) -> capi_numbers::RefusalAnswer
     ensures { ChannelFromC out.old name.now description.now common info result out.new }
 {
     capi::write::codeplug_write_channel(out, name, description, common, info)
@@ -33,7 +33,7 @@ pub extern "C" fn codeplug_write_channel(
 
 // Writes a text field's 32 bytes.
 #[unsafe(no_mangle)]
-pub extern "C" fn codeplug_write_text(out: &mut [u8], text: &[u8]) -> capi_numbers::Refusal
+pub extern "C" fn codeplug_write_text(out: &mut [u8], text: &[u8]) -> capi_numbers::RefusalAnswer
     ensures { TextFromC out.old text.now result out.new }
 {
     capi::write::codeplug_write_text(out, text)
@@ -41,7 +41,7 @@ pub extern "C" fn codeplug_write_text(out: &mut [u8], text: &[u8]) -> capi_numbe
 
 // Writes the empty codeplug's 88 bytes.
 #[unsafe(no_mangle)]
-pub extern "C" fn codeplug_write_empty(out: &mut [u8]) -> capi_numbers::Refusal
+pub extern "C" fn codeplug_write_empty(out: &mut [u8]) -> capi_numbers::RefusalAnswer
     ensures { EmptyToC out.old result out.new }
 {
     capi::write::codeplug_write_empty(out)

@@ -1,13 +1,13 @@
 -- A channel as numbers.
-use Rattle.std.specs.Prelude.{ℕ, false, List, [], ◌++◌}
-use Rattle.fields.specs.declared.rule.Validity.TheVariants.{Refused}
+use Rattle.std.specs.Prelude.{ℕ, false, List, ◌++◌, Result, Ok, Err}
+use Rattle.format.specs.declared.refusals.Refusal.{Refusal}
 use Rattle.tones.specs.Tone.{tone_index, tone_enabled}
 use Rattle.channel.specs.Values.{contact_index_number}
-use Rattle.channel_reader.specs.Reading.{channel_answer}
+use Rattle.channel_reader.specs.Reading.{blank_channel}
 use Rattle.channel.specs.declared.Info.{Info}
 use Rattle.channel.specs.declared.Info.TheVariants.{Fm, Dmr, M17}
-use Rattle.channel_reader.specs.declared.ChannelRead.{ChannelRead}
-use Rattle.capi_numbers.specs.Numbers.{refusal_of}
+use Rattle.channel.specs.declared.Channel.{Channel}
+use Rattle.capi_numbers.specs.Numbers.{refused, refused_by}
 use Rattle.capi_convert.specs.Texts.{TextsOut}
 use Rattle.capi_numbers.specs.declared.ChannelInfo.{ChannelInfo}
 use Rattle.capi_convert.specs.declared.channels.ChannelAnswer.{ChannelAnswer}
@@ -62,8 +62,9 @@ channel_info (M17 i) =
 
 -- ---- what was read of a channel, and name and description into a buffer
 
-unfoldable pub channel_to_c : ChannelRead → ChannelAnswer
-channel_to_c r = record { refusal = refusal_of r.validity; common = r.channel.common; info = channel_info r.channel.info }
+unfoldable pub channel_to_c : Result Channel Refusal → ChannelAnswer
+channel_to_c (Ok x) = record { refusal = refused 0 0; common = x.common; info = channel_info x.info }
+channel_to_c (Err e) = record { refusal = refused_by e; common = blank_channel.common; info = channel_info blank_channel.info }
 
-abbrev pub ChannelOut : ChannelRead → List ℕ → ChannelAnswer → List ℕ → Type 0
-ChannelOut = TextsOut (λ r. r.validity) (λ r. r.channel.name ++ r.channel.description) channel_to_c 64 (channel_answer (Refused 25 0) [])
+abbrev pub ChannelOut : Result Channel Refusal → List ℕ → ChannelAnswer → List ℕ → Type 0
+ChannelOut = TextsOut (λ x. x.name ++ x.description) channel_to_c 64

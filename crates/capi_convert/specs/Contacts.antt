@@ -1,12 +1,12 @@
 -- A contact as numbers.
-use Rattle.std.specs.Prelude.{ℕ, false, List, []}
-use Rattle.fields.specs.declared.rule.Validity.TheVariants.{Refused}
+use Rattle.std.specs.Prelude.{ℕ, false, List, Result, Ok, Err}
+use Rattle.format.specs.declared.refusals.Refusal.{Refusal}
 use Rattle.m17.specs.Address.{address_number, is_broadcast}
-use Rattle.contact.specs.Contact.{contact_answer}
+use Rattle.contact.specs.Contact.{blank_contact}
 use Rattle.contact.specs.declared.ContactInfo.{ContactInfo}
 use Rattle.contact.specs.declared.ContactInfo.TheVariants.{M17, Dmr}
-use Rattle.contact.specs.declared.ContactRead.{ContactRead}
-use Rattle.capi_numbers.specs.Numbers.{refusal_of}
+use Rattle.contact.specs.declared.Contact.{Contact}
+use Rattle.capi_numbers.specs.Numbers.{refused, refused_by}
 use Rattle.capi_convert.specs.Texts.{TextsOut}
 use Rattle.capi_numbers.specs.declared.ContactValues.{ContactValues}
 use Rattle.capi_convert.specs.declared.contacts.ContactAnswer.{ContactAnswer}
@@ -20,8 +20,9 @@ contact_values (M17 a) =
 
 -- ---- what was read of a contact, and its name into a buffer
 
-unfoldable pub contact_to_c : ContactRead → ContactAnswer
-contact_to_c r = record { refusal = refusal_of r.validity; values = contact_values r.contact.info }
+unfoldable pub contact_to_c : Result Contact Refusal → ContactAnswer
+contact_to_c (Ok x) = record { refusal = refused 0 0; values = contact_values x.info }
+contact_to_c (Err e) = record { refusal = refused_by e; values = contact_values blank_contact.info }
 
-abbrev pub ContactOut : ContactRead → List ℕ → ContactAnswer → List ℕ → Type 0
-ContactOut = TextsOut (λ r. r.validity) (λ r. r.contact.name) contact_to_c 32 (contact_answer (Refused 25 0) [])
+abbrev pub ContactOut : Result Contact Refusal → List ℕ → ContactAnswer → List ℕ → Type 0
+ContactOut = TextsOut (λ x. x.name) contact_to_c 32

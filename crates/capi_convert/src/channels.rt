@@ -2,19 +2,20 @@
 ghost use Rattle.std.specs.Prelude.{◌≡◌, length};
 ghost use Rattle.channel_reader.specs.Reading.{info_of, channel_answer};
 ghost use Rattle.capi_convert.specs.Channels.{channel_info, ChannelOut};
+ghost use Rattle.fields.specs.Rule.{Valid};
 
 use bits::Nibbles;
-use capi_numbers::{ChannelInfo, Refusal};
+use capi_numbers::{ChannelInfo, RefusalAnswer};
 use channel::Info;
 use channel::values::contact_index_number;
-use fields::rule::Validity;
+use format::refusals::Refusal;
 use format::sizes::CHANNEL_SIZE;
 use tones::{index_in, is_enabled};
 
 #[repr(C)]
 #[derive(Clone, Copy)]
 pub struct ChannelAnswer {
-    pub refusal: Refusal,
+    pub refusal: RefusalAnswer,
     pub common: channel::Common,
     pub info: ChannelInfo,
 }
@@ -35,45 +36,45 @@ const NO_INFO: ChannelInfo = ChannelInfo {
     position: false,
 };
 
+#[tactic(auto, unfolding(crate::specs::Channels::channel_info))]
 fn fm_info(i: channel::FmInfo) -> ChannelInfo
     ensures { result ≡ channel_info (Info.Fm i) }
 {
-    let receive = i.receive;
-    let transmit = i.transmit;
-    let mut v = NO_INFO;
-    v.receive_tone = index_in(receive);
-    v.receive_tone_on = is_enabled(receive);
-    v.transmit_tone = index_in(transmit);
-    v.transmit_tone_on = is_enabled(transmit);
-    v
+    ChannelInfo {
+        receive_tone: index_in(i.receive),
+        receive_tone_on: is_enabled(i.receive),
+        transmit_tone: index_in(i.transmit),
+        transmit_tone_on: is_enabled(i.transmit),
+        ..NO_INFO
+    }
 }
 
+#[tactic(auto, unfolding(crate::specs::Channels::channel_info))]
 fn dmr_info(i: channel::DmrInfo) -> ChannelInfo
     ensures { result ≡ channel_info (Info.Dmr i) }
 {
-    let contact = i.contact;
-    let colours = i.colours;
-    let mut v = NO_INFO;
-    v.contact = contact_index_number(contact);
-    v.mode = channel::DMR;
-    v.colours = colours;
-    v.slot = i.slot;
-    v
+    ChannelInfo {
+        contact: contact_index_number(i.contact),
+        mode: channel::DMR,
+        colours: i.colours,
+        slot: i.slot,
+        ..NO_INFO
+    }
 }
 
+#[tactic(auto, unfolding(crate::specs::Channels::channel_info))]
 fn m17_info(i: channel::M17Info) -> ChannelInfo
     ensures { result ≡ channel_info (Info.M17 i) }
 {
-    let contact = i.contact;
-    let access = i.access;
-    let mut v = NO_INFO;
-    v.contact = contact_index_number(contact);
-    v.mode = channel::M17;
-    v.access = access;
-    v.operation = i.operation;
-    v.encryption = i.encryption;
-    v.position = i.position;
-    v
+    ChannelInfo {
+        contact: contact_index_number(i.contact),
+        mode: channel::M17,
+        access: i.access,
+        operation: i.operation,
+        encryption: i.encryption,
+        position: i.position,
+        ..NO_INFO
+    }
 }
 
 #[tactic(auto, unfolding(channel_reader::specs::Reading::info_of))]
@@ -89,17 +90,14 @@ fn channel_info(s: &[u8]) -> ChannelInfo
 
 // A channel with this validity from its 90 bytes; name and description go into the buffer. `whole` is those bytes again, but says to the
 // compiler how many there are.
-pub fn channel_out(texts: &mut [u8], v: Validity, s: &[u8]) -> ChannelAnswer
-    requires { v ≡ Validity.Valid → length s.now ≡ 90 }
+pub fn channel_out(texts: &mut [u8], v: Result<(), Refusal>, s: &[u8]) -> ChannelAnswer
+    requires { v ≡ Valid → length s.now ≡ 90 }
     ensures { ChannelOut (channel_answer v s.now) texts.old result texts.new }
 {
-    let validity = crate::texts::put_texts(texts, v, s, 13);
-    if let Validity::Refused(number, place) = validity {
-        let blank = channel_reader::blank();
-        let common = blank.common;
+    if let Err(refusal) = crate::texts::put_texts(texts, v, s, 13) {
         return ChannelAnswer {
-            refusal: Refusal { number, place },
-            common,
+            refusal: refusal.into(),
+            common: channel_reader::blank().common,
             info: NO_INFO,
         };
     }

@@ -1,25 +1,27 @@
 // What validation answers, the header, a bank, and an entry.
 ghost use Rattle.std.specs.Prelude.{◌≡◌, ◌≤◌, length};
 ghost use Rattle.codeplug.specs.Read.{header_answer, bank_answer};
-ghost use Rattle.capi_convert.specs.Files.{validate_answer, HeaderOut, BankOut, entry_to_c};
+ghost use Rattle.capi_convert.specs.Files.{validate_answer, header_to_c, HeaderOut, bank_to_c, BankOut, entry_to_c};
+ghost use Rattle.fields.specs.Rule.{Valid};
 
-use capi_numbers::{OK, Refusal, refusal_of};
+use crate::texts::{put_name, put_texts};
+use capi_numbers::{OK, RefusalAnswer};
+use codeplug::{Bank, Header};
 use entries::EntryStep;
-use fields::rule::Validity;
+use format::refusals::Refusal;
 use layout::Counts;
-use validation::Validated;
 
 #[repr(C)]
 #[derive(Clone, Copy)]
 pub struct ValidateAnswer {
-    pub refusal: Refusal,
+    pub refusal: RefusalAnswer,
     pub counts: Counts,
 }
 
 #[repr(C)]
 #[derive(Clone, Copy)]
 pub struct HeaderAnswer {
-    pub refusal: Refusal,
+    pub refusal: RefusalAnswer,
     pub timestamp: u64,
     pub counts: Counts,
 }
@@ -27,76 +29,104 @@ pub struct HeaderAnswer {
 #[repr(C)]
 #[derive(Clone, Copy)]
 pub struct BankAnswer {
-    pub refusal: Refusal,
+    pub refusal: RefusalAnswer,
     pub entries: u16,
 }
 
 #[repr(C)]
 #[derive(Clone, Copy)]
 pub struct BankEntryAnswer {
-    pub refusal: Refusal,
+    pub refusal: RefusalAnswer,
     pub channel: u16,
     pub next: usize,
 }
 
-pub fn validate_answer(j: Validated) -> ValidateAnswer
-    ensures { result ≡ validate_answer j }
-{
-    match j {
-        Validated::Accepted(counts) => ValidateAnswer {
-            refusal: OK,
-            counts,
-        },
-        Validated::Refused(number, place) => ValidateAnswer {
-            refusal: Refusal { number, place },
-            counts: codeplug::read::NO_COUNTS,
-        },
+impl From<Result<Counts, Refusal>> for ValidateAnswer {
+    ghost from_gives = { λ j r. r ≡ validate_answer j };
+
+    fn from(j: Result<Counts, Refusal>) -> ValidateAnswer {
+        match j {
+            Ok(counts) => ValidateAnswer {
+                refusal: OK,
+                counts,
+            },
+            Err(refusal) => ValidateAnswer {
+                refusal: refusal.into(),
+                counts: codeplug::read::NO_COUNTS,
+            },
+        }
+    }
+}
+
+impl From<Result<Header, Refusal>> for HeaderAnswer {
+    ghost from_gives = { λ read r. r ≡ header_to_c read };
+
+    #[tactic(auto, unfolding(crate::specs::Files::header_to_c, codeplug::specs::Read::blank_header))]
+    fn from(read: Result<Header, Refusal>) -> HeaderAnswer {
+        match read {
+            Ok(header) => HeaderAnswer {
+                refusal: OK,
+                timestamp: header.timestamp,
+                counts: header.counts,
+            },
+            Err(refusal) => HeaderAnswer {
+                refusal: refusal.into(),
+                timestamp: 0,
+                counts: codeplug::read::NO_COUNTS,
+            },
+        }
     }
 }
 
 // The header of a file with this validity; author and description go into the buffer.
-pub fn header_out(texts: &mut [u8], v: Validity, f: &[u8]) -> HeaderAnswer
-    requires { v ≡ Validity.Valid → 88 ≤ length f.now }
+pub fn header_out(texts: &mut [u8], v: Result<(), Refusal>, f: &[u8]) -> HeaderAnswer
+    requires { v ≡ Valid → 88 ≤ length f.now }
     ensures { HeaderOut (header_answer v f.now) texts.old result texts.new }
 {
-    let validity = crate::texts::put_texts(texts, v, f, 10);
-    let read = codeplug::read::header_answer(validity, f);
-    let header = read.header;
-    let counts = header.counts;
-    HeaderAnswer {
-        refusal: refusal_of(validity),
-        timestamp: header.timestamp,
-        counts,
+    codeplug::read::header_answer(put_texts(texts, v, f, 10), f).into()
+}
+
+impl From<Result<Bank, Refusal>> for BankAnswer {
+    ghost from_gives = { λ read r. r ≡ bank_to_c read };
+
+    #[tactic(auto, unfolding(crate::specs::Files::bank_to_c, codeplug::specs::Read::blank_bank))]
+    fn from(read: Result<Bank, Refusal>) -> BankAnswer {
+        match read {
+            Ok(bank) => BankAnswer {
+                refusal: OK,
+                entries: bank.entries,
+            },
+            Err(refusal) => BankAnswer {
+                refusal: refusal.into(),
+                entries: 0,
+            },
+        }
     }
 }
 
 // A bank with this validity from its first 34 bytes; its name goes into the buffer.
-pub fn bank_out(name: &mut [u8], v: Validity, s: &[u8]) -> BankAnswer
-    requires { v ≡ Validity.Valid → 34 ≤ length s.now }
+pub fn bank_out(name: &mut [u8], v: Result<(), Refusal>, s: &[u8]) -> BankAnswer
+    requires { v ≡ Valid → 34 ≤ length s.now }
     ensures { BankOut (bank_answer v s.now) name.old result name.new }
 {
-    let validity = crate::texts::put_name(name, v, s);
-    let read = codeplug::read::bank_answer(validity, s);
-    let bank = read.bank;
-    BankAnswer {
-        refusal: refusal_of(validity),
-        entries: bank.entries,
-    }
+    codeplug::read::bank_answer(put_name(name, v, s), s).into()
 }
 
-pub fn bank_entry_answer(step: EntryStep) -> BankEntryAnswer
-    ensures { result ≡ entry_to_c step }
-{
-    match step {
-        EntryStep::Entry(channel, next) => BankEntryAnswer {
-            refusal: OK,
-            channel,
-            next,
-        },
-        EntryStep::Refused(number, place) => BankEntryAnswer {
-            refusal: Refusal { number, place },
-            channel: 0,
-            next: 0,
-        },
+impl From<Result<EntryStep, Refusal>> for BankEntryAnswer {
+    ghost from_gives = { λ step r. r ≡ entry_to_c step };
+
+    fn from(step: Result<EntryStep, Refusal>) -> BankEntryAnswer {
+        match step {
+            Ok(entry) => BankEntryAnswer {
+                refusal: OK,
+                channel: entry.channel,
+                next: entry.next,
+            },
+            Err(refusal) => BankEntryAnswer {
+                refusal: refusal.into(),
+                channel: 0,
+                next: 0,
+            },
+        }
     }
 }

@@ -2,9 +2,10 @@
 ghost use Rattle.std.specs.Prelude.{◌≡◌, ◌+◌, ◌≤◌, length};
 ghost use Rattle.fields.specs.Bytes.{part, over};
 ghost use Rattle.capi_convert.specs.Texts.{TextsPut};
+ghost use Rattle.fields.specs.Rule.{Valid};
 
-use fields::rule::{Validity, first, unless};
-use format::refusals::SHORT_BUFFER;
+use fields::rule::unless;
+use format::refusals::{Reason, Refusal};
 use format::sizes::{TEXT_SIZE, TEXTS_SIZE};
 
 // The 32 bytes of s at k, over the buffer from place `at` on. They go by value: what is copied byte by byte between two lent slices, which
@@ -18,28 +19,31 @@ fn put_text(out: &mut [u8], at: usize, s: &[u8], k: usize)
 }
 
 // The text that a record begins with.
-pub(crate) fn put_name(out: &mut [u8], v: Validity, s: &[u8]) -> Validity
-    requires { v ≡ Validity.Valid → 32 ≤ length s.now }
+#[tactic(auto, unfolding(fields::specs::Rule::written), using(crate::proofs::Laws::has_room, fields::proofs::Laws::ok_then, fields::proofs::Laws::err_then))]
+pub(crate) fn put_name(out: &mut [u8], v: Result<(), Refusal>, s: &[u8]) -> Result<(), Refusal>
+    requires { v ≡ Valid → 32 ≤ length s.now }
     ensures { TextsPut 32 (part s.now 0 32) v out.old result out.new }
 {
-    let validity = first(unless(TEXT_SIZE <= out.len(), SHORT_BUFFER, 0), v);
-    if let Validity::Refused(_, _) = validity {
-        return validity;
-    }
+    unless(TEXT_SIZE <= out.len(), Reason::ShortBuffer, 0)?;
+    v?;
     put_text(out, 0, s, 0);
-    validity
+    Ok(())
 }
 
 // The two texts at k, one behind the other.
-pub(crate) fn put_texts(out: &mut [u8], v: Validity, s: &[u8], k: usize) -> Validity
-    requires { v ≡ Validity.Valid → k + 64 ≤ length s.now }
+#[tactic(auto, unfolding(fields::specs::Rule::written), using(crate::proofs::Laws::has_room, crate::proofs::Laws::both_texts, fields::proofs::Laws::ok_then, fields::proofs::Laws::err_then))]
+pub(crate) fn put_texts(
+    out: &mut [u8],
+    v: Result<(), Refusal>,
+    s: &[u8],
+    k: usize,
+) -> Result<(), Refusal>
+    requires { v ≡ Valid → k + 64 ≤ length s.now }
     ensures { TextsPut 64 (part s.now k 64) v out.old result out.new }
 {
-    let validity = first(unless(TEXTS_SIZE <= out.len(), SHORT_BUFFER, 0), v);
-    if let Validity::Refused(_, _) = validity {
-        return validity;
-    }
+    unless(TEXTS_SIZE <= out.len(), Reason::ShortBuffer, 0)?;
+    v?;
     put_text(out, 0, s, k);
     put_text(out, 32, s, k + 32);
-    validity
+    Ok(())
 }

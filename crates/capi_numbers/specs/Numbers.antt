@@ -1,50 +1,47 @@
 -- Refusals, and the answers of the two calls, of addresses and of tones, as numbers.
-use Rattle.std.specs.Prelude.{ℕ, true, false}
-use Rattle.fields.specs.declared.rule.Validity.{Validity}
-use Rattle.fields.specs.declared.rule.Validity.TheVariants as validity
-use Rattle.journal.specs.declared.answer.Answer.{Answer}
-use Rattle.journal.specs.declared.answer.Answer.TheVariants as answer
-use Rattle.m17.specs.declared.Encoded.{Encoded}
-use Rattle.m17.specs.declared.Encoded.TheVariants as encoded
+use Rattle.std.specs.Prelude.{ℕ, true, false, Option, Some, None, Result, Ok, Err}
+use Rattle.format.specs.Refusals.{number_of}
+use Rattle.format.specs.declared.refusals.Refusal.{Refusal}
+use Rattle.fields.specs.Rule.{Validity}
+use Rattle.journal.specs.declared.answer.Done.{Done}
 use Rattle.m17.specs.declared.Decoded.{Decoded}
 use Rattle.m17.specs.declared.Decoded.TheVariants as decoded
-use Rattle.tones.specs.declared.Frequency.{Frequency}
-use Rattle.tones.specs.declared.Frequency.TheVariants as frequency
-use Rattle.tones.specs.declared.ToneIndex.{ToneIndex}
-use Rattle.tones.specs.declared.ToneIndex.TheVariants as index
-use Rattle.capi_numbers.specs.declared.Refusal.{Refusal}
+use Rattle.capi_numbers.specs.declared.RefusalAnswer.{RefusalAnswer}
 use Rattle.capi_numbers.specs.declared.EditAnswer.{EditAnswer}
 use Rattle.capi_numbers.specs.declared.EncodeAnswer.{EncodeAnswer}
 use Rattle.capi_numbers.specs.declared.DecodeAnswer.{DecodeAnswer}
 
 -- a refusal's number, 0 for none, and its place
-abbrev pub refused : ℕ → ℕ → Refusal
+abbrev pub refused : ℕ → ℕ → RefusalAnswer
 refused n p = record { number = n; place = p }
 
-abbrev pub refusal_of : Validity → Refusal
-refusal_of validity.Valid = refused 0 0
-refusal_of (validity.Refused n p) = refused n p
+abbrev pub refused_by : Refusal → RefusalAnswer
+refused_by e = refused (number_of e.reason) e.place
+
+abbrev pub refusal_of : Validity → RefusalAnswer
+refusal_of (Ok u) = refused 0 0
+refusal_of (Err e) = refused_by e
 
 -- of a call with these two lengths: a refused one changes nothing, lengths included
-abbrev pub edit_answer : Answer → ℕ → ℕ → EditAnswer
-edit_answer (answer.Done len used entries) length-given used-given = record { refusal = refused 0 0; length = len; used = used; entries = entries }
-edit_answer (answer.Refused n p) length-given used-given = record { refusal = refused n p; length = length-given; used = used-given; entries = 0 }
+abbrev pub edit_answer : Result Done Refusal → ℕ → ℕ → EditAnswer
+edit_answer (Ok x) length-given used-given = record { refusal = refused 0 0; length = x.len; used = x.used; entries = x.entries }
+edit_answer (Err e) length-given used-given = record { refusal = refused_by e; length = length-given; used = used-given; entries = 0 }
 
-abbrev pub encode_answer : Encoded → EncodeAnswer
-encode_answer (encoded.Number a) = record { refusal = refused 0 0; address = a }
-encode_answer (encoded.Refused n p) = record { refusal = refused n p; address = 0 }
+abbrev pub encode_answer : Result ℕ Refusal → EncodeAnswer
+encode_answer (Ok a) = record { refusal = refused 0 0; address = a }
+encode_answer (Err e) = record { refusal = refused_by e; address = 0 }
 
-abbrev pub decode_answer : Decoded → DecodeAnswer
-decode_answer (decoded.Text len) = record { refusal = refused 0 0; length = len; broadcast = false }
-decode_answer decoded.Broadcast = record { refusal = refused 0 0; length = 0; broadcast = true }
-decode_answer (decoded.Refused n p) = record { refusal = refused n p; length = 0; broadcast = false }
+abbrev pub decode_answer : Result Decoded Refusal → DecodeAnswer
+decode_answer (Ok (decoded.Text len)) = record { refusal = refused 0 0; length = len; broadcast = false }
+decode_answer (Ok decoded.Broadcast) = record { refusal = refused 0 0; length = 0; broadcast = true }
+decode_answer (Err e) = record { refusal = refused_by e; length = 0; broadcast = false }
 
 -- no tone has frequency 0
-abbrev pub tenths_of : Frequency → ℕ
-tenths_of (frequency.Tenths t) = t
-tenths_of frequency.NoTone = 0
+abbrev pub tenths_of : Option ℕ → ℕ
+tenths_of (Some t) = t
+tenths_of None = 0
 
 -- no tone has index 255
-abbrev pub index_number : ToneIndex → ℕ
-index_number (index.Index i) = i
-index_number index.NoIndex = 255
+abbrev pub index_number : Option ℕ → ℕ
+index_number (Some i) = i
+index_number None = 255

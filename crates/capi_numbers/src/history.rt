@@ -4,33 +4,37 @@ ghost use Rattle.journal.specs.Entry.{entries_of};
 ghost use Rattle.journal.specs.History.{number_of_entries};
 ghost use Rattle.capi_numbers.specs.History.{history_answer};
 
-use crate::{OK, Refusal};
-use format::refusals::BAD_HISTORY;
-use journal::scan::HistoryRead;
+use crate::{OK, RefusalAnswer};
+use format::refusals::{Reason, Refusal};
 
 // The number of entries; 0 beside a refusal.
 #[repr(C)]
 #[derive(Clone, Copy)]
 pub struct HistoryAnswer {
-    pub refusal: Refusal,
+    pub refusal: RefusalAnswer,
     pub entries: usize,
 }
 
-pub fn history_answer(h: HistoryRead) -> HistoryAnswer
-    ensures { result ≡ history_answer h }
-{
-    match h {
-        HistoryRead::Entries(entries) => HistoryAnswer {
-            refusal: OK,
-            entries,
-        },
-        HistoryRead::Broken => HistoryAnswer {
-            refusal: Refusal {
-                number: BAD_HISTORY,
-                place: 0,
+impl From<Option<usize>> for HistoryAnswer {
+    ghost from_gives = { λ h r. r ≡ history_answer h };
+
+    fn from(h: Option<usize>) -> HistoryAnswer {
+        match h {
+            Some(entries) => HistoryAnswer {
+                refusal: OK,
+                entries,
             },
-            entries: 0,
-        },
+            None => {
+                let refusal = Refusal {
+                    reason: Reason::BadHistory,
+                    place: 0,
+                };
+                HistoryAnswer {
+                    refusal: refusal.into(),
+                    entries: 0,
+                }
+            }
+        }
     }
 }
 
@@ -38,5 +42,5 @@ pub fn history_answer(h: HistoryRead) -> HistoryAnswer
 pub fn entries(history: &[u8]) -> HistoryAnswer
     ensures { result ≡ history_answer (number_of_entries (entries_of history.now)) }
 {
-    history_answer(journal::scan::history_entries(history))
+    journal::scan::history_entries(history).into()
 }

@@ -5,33 +5,45 @@
 pub mod history; // history.rt: how many entries a history holds
 
 ghost use Rattle.std.specs.Prelude.{◌≡◌};
-ghost use Rattle.capi_numbers.specs.Numbers.{refusal_of, edit_answer, encode_answer, decode_answer, tenths_of, index_number};
+ghost use Rattle.capi_numbers.specs.Numbers.{refused_by, refusal_of, edit_answer, encode_answer, decode_answer, tenths_of, index_number};
 
 use bits::Nibbles;
-use fields::rule::Validity;
-use journal::answer::Answer;
-use m17::{Decoded, Encoded};
-use tones::{Frequency, ToneIndex};
+use format::refusals::Refusal;
+use journal::answer::Done;
+use m17::Decoded;
 
 // A refusal's number, 0 for none, and its place. Every answer that is a structure begins with one.
 #[repr(C)]
 #[derive(Clone, Copy)]
-pub struct Refusal {
+pub struct RefusalAnswer {
     pub number: u8,
     pub place: usize,
 }
 
-pub const OK: Refusal = Refusal {
+pub const OK: RefusalAnswer = RefusalAnswer {
     number: 0,
     place: 0,
 };
 
-pub fn refusal_of(v: Validity) -> Refusal
-    ensures { result ≡ refusal_of v }
-{
-    match v {
-        Validity::Valid => OK,
-        Validity::Refused(number, place) => Refusal { number, place },
+impl From<Refusal> for RefusalAnswer {
+    ghost from_gives = { λ e r. r ≡ refused_by e };
+
+    fn from(refusal: Refusal) -> RefusalAnswer {
+        RefusalAnswer {
+            number: refusal.reason.number(),
+            place: refusal.place,
+        }
+    }
+}
+
+impl From<Result<(), Refusal>> for RefusalAnswer {
+    ghost from_gives = { λ v r. r ≡ refusal_of v };
+
+    fn from(v: Result<(), Refusal>) -> RefusalAnswer {
+        match v {
+            Ok(()) => OK,
+            Err(refusal) => refusal.into(),
+        }
     }
 }
 
@@ -39,25 +51,25 @@ pub fn refusal_of(v: Validity) -> Refusal
 #[repr(C)]
 #[derive(Clone, Copy)]
 pub struct EditAnswer {
-    pub refusal: Refusal,
+    pub refusal: RefusalAnswer,
     pub length: usize,
     pub used: usize,
     pub entries: usize,
 }
 
 // The answer of a call with these two lengths.
-pub fn edit_answer(a: Answer, length: usize, used: usize) -> EditAnswer
+pub fn edit_answer(a: Result<Done, Refusal>, length: usize, used: usize) -> EditAnswer
     ensures { result ≡ edit_answer a length used }
 {
     match a {
-        Answer::Done(new_length, new_used, entries) => EditAnswer {
+        Ok(done) => EditAnswer {
             refusal: OK,
-            length: new_length,
-            used: new_used,
-            entries,
+            length: done.len,
+            used: done.used,
+            entries: done.entries,
         },
-        Answer::Refused(number, place) => EditAnswer {
-            refusal: Refusal { number, place },
+        Err(refusal) => EditAnswer {
+            refusal: refusal.into(),
             length,
             used,
             entries: 0,
@@ -69,22 +81,24 @@ pub fn edit_answer(a: Answer, length: usize, used: usize) -> EditAnswer
 #[repr(C)]
 #[derive(Clone, Copy)]
 pub struct EncodeAnswer {
-    pub refusal: Refusal,
+    pub refusal: RefusalAnswer,
     pub address: u64,
 }
 
-pub fn encode_answer(e: Encoded) -> EncodeAnswer
-    ensures { result ≡ encode_answer e }
-{
-    match e {
-        Encoded::Number(address) => EncodeAnswer {
-            refusal: OK,
-            address,
-        },
-        Encoded::Refused(number, place) => EncodeAnswer {
-            refusal: Refusal { number, place },
-            address: 0,
-        },
+impl From<Result<u64, Refusal>> for EncodeAnswer {
+    ghost from_gives = { λ e r. r ≡ encode_answer e };
+
+    fn from(e: Result<u64, Refusal>) -> EncodeAnswer {
+        match e {
+            Ok(address) => EncodeAnswer {
+                refusal: OK,
+                address,
+            },
+            Err(refusal) => EncodeAnswer {
+                refusal: refusal.into(),
+                address: 0,
+            },
+        }
     }
 }
 
@@ -92,49 +106,47 @@ pub fn encode_answer(e: Encoded) -> EncodeAnswer
 #[repr(C)]
 #[derive(Clone, Copy)]
 pub struct DecodeAnswer {
-    pub refusal: Refusal,
+    pub refusal: RefusalAnswer,
     pub length: usize,
     pub broadcast: bool,
 }
 
-pub fn decode_answer(d: Decoded) -> DecodeAnswer
-    ensures { result ≡ decode_answer d }
-{
-    match d {
-        Decoded::Text(length) => DecodeAnswer {
-            refusal: OK,
-            length,
-            broadcast: false,
-        },
-        Decoded::Broadcast => DecodeAnswer {
-            refusal: OK,
-            length: 0,
-            broadcast: true,
-        },
-        Decoded::Refused(number, place) => DecodeAnswer {
-            refusal: Refusal { number, place },
-            length: 0,
-            broadcast: false,
-        },
+impl From<Result<Decoded, Refusal>> for DecodeAnswer {
+    ghost from_gives = { λ d r. r ≡ decode_answer d };
+
+    fn from(d: Result<Decoded, Refusal>) -> DecodeAnswer {
+        match d {
+            Ok(Decoded::Text(length)) => DecodeAnswer {
+                refusal: OK,
+                length,
+                broadcast: false,
+            },
+            Ok(Decoded::Broadcast) => DecodeAnswer {
+                refusal: OK,
+                length: 0,
+                broadcast: true,
+            },
+            Err(refusal) => DecodeAnswer {
+                refusal: refusal.into(),
+                length: 0,
+                broadcast: false,
+            },
+        }
     }
 }
 
-pub fn tenths_of(f: Frequency) -> u16
+// A tone's frequency in tenths of a hertz; 0 where there is none.
+pub fn tenths_of(f: Option<u16>) -> u16
     ensures { result ≡ tenths_of f }
 {
-    match f {
-        Frequency::Tenths(t) => t,
-        Frequency::NoTone => 0,
-    }
+    f.unwrap_or(0)
 }
 
-pub fn index_number(i: ToneIndex) -> u8
+// A tone's index; 255 where there is none.
+pub fn index_number(i: Option<u8>) -> u8
     ensures { result ≡ index_number i }
 {
-    match i {
-        ToneIndex::Index(i) => i,
-        ToneIndex::NoIndex => 255,
-    }
+    i.unwrap_or(255)
 }
 
 // A contact but for its name. Mode 1 is DMR (id, kind, rx tone), mode 2 is M17 (address, broadcast); the other mode's numbers are 0 in what is

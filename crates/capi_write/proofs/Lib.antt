@@ -1,3 +1,2 @@
--- What the proofs of several functions use.
+-- What the proofs use.
 mod ContactLaws
-mod ChannelLaws

@@ -2,15 +2,16 @@
 use Rattle.std.specs.Prelude.{◌≡◌, ℕ, cond, List, length, eqb, leb}
 use Rattle.text.specs.Text.{given_ok}
 use Rattle.fields.specs.Rule.{◌then◌, unless, written}
-use Rattle.fields.specs.declared.rule.Validity.{Validity}
 use Rattle.m17.specs.declared.Edition.{Edition}
 use Rattle.m17.specs.declared.Address.TheVariants.{Callsign, Broadcast}
 use Rattle.contact.specs.Contact.{mode_ok, contact_write_rule, contact_bytes}
 use Rattle.contact.specs.declared.ContactInfo.{ContactInfo}
 use Rattle.contact.specs.declared.ContactInfo.TheVariants.{M17, Dmr}
 use Rattle.capi_numbers.specs.Numbers.{refusal_of}
-use Rattle.capi_numbers.specs.declared.Refusal.{Refusal}
+use Rattle.capi_numbers.specs.declared.RefusalAnswer.{RefusalAnswer}
 use Rattle.capi_numbers.specs.declared.ContactValues.{ContactValues}
+use Rattle.format.specs.declared.refusals.Reason.TheVariants as reason
+use Rattle.fields.specs.Rule.{Validity}
 
 -- what the numbers mean, the other mode's unread, and the address too where `broadcast` is set; only of use where the mode is valid
 abbrev pub info_from : ContactValues → ContactInfo
@@ -23,9 +24,9 @@ info_from v =
 
 unfoldable pub contact_from_c_rule : Edition → ℕ → List ℕ → ContactValues → Validity
 contact_from_c_rule e size name v =
-    unless (leb 39 size) 25 0
-    then unless (given_ok name) 5 0
-    then unless (mode_ok v.mode) 6 32
+    unless (leb 39 size) reason.ShortBuffer 0
+    then unless (given_ok name) reason.Text 0
+    then unless (mode_ok v.mode) reason.Mode 32
     then contact_write_rule e size name (info_from v)
 
 -- the later contents of the buffer
@@ -33,5 +34,5 @@ unfoldable pub contact_from_c_written : Edition → List ℕ → List ℕ → Co
 contact_from_c_written e out name v = written (contact_from_c_rule e (length out) name v) out (contact_bytes name (info_from v))
 
 -- a refusal, and the buffer after it
-abbrev pub ContactFromC : Edition → List ℕ → List ℕ → ContactValues → Refusal → List ℕ → Type 0
+abbrev pub ContactFromC : Edition → List ℕ → List ℕ → ContactValues → RefusalAnswer → List ℕ → Type 0
 ContactFromC e out name v r after = (r ≡ refusal_of (contact_from_c_rule e (length out) name v)) × (after ≡ contact_from_c_written e out name v)

@@ -1,12 +1,12 @@
 // A contact written from its numbers.
-ghost use Rattle.std.specs.Prelude.{◌≡◌};
-ghost use Rattle.capi_write.specs.Contacts.{info_from, ContactFromC};
+ghost use Rattle.std.specs.Prelude.{◌≡◌, length};
+ghost use Rattle.capi_write.specs.Contacts.{info_from, contact_from_c_rule, contact_from_c_written, ContactFromC};
 
-use capi_numbers::{ContactValues, refusal_of};
+use capi_numbers::{ContactValues, RefusalAnswer};
 use contact::ContactInfo;
-use fields::rule::{Validity, first, unless};
-use format::refusals::{MODE, SHORT_BUFFER};
-use format::sizes::CONTACT_MODE_AT;
+use fields::rule::unless;
+use format::refusals::{Reason, Refusal};
+use format::sizes::{CONTACT_MODE_AT, CONTACT_SIZE};
 use m17::{Address, Edition};
 
 // The info that the numbers mean; any mode but 1 is taken for M17.
@@ -26,21 +26,31 @@ fn info_from(v: ContactValues) -> ContactInfo
     ContactInfo::M17(Address::Callsign(v.address))
 }
 
-// Writes a contact's 39 bytes.
-pub fn write(
+// A mode that is not there is refused behind what stands before it; where it is there, the library's writer validates all.
+#[tactic(auto, unfolding(crate::specs::Contacts::contact_from_c_rule, crate::specs::Contacts::contact_from_c_written, fields::specs::Rule::written), using(fields::proofs::Laws::ok_then, fields::proofs::Laws::err_then))]
+fn write_known(
     out: &mut [u8],
     name: &[u8],
     values: ContactValues,
     edition: Edition,
-) -> capi_numbers::Refusal
+) -> Result<(), Refusal>
+    ensures { (result ≡ contact_from_c_rule edition (length out.old) name.now values)
+        × (out.new ≡ contact_from_c_written edition out.old name.now values) }
+{
+    if values.mode == contact::DMR || values.mode == contact::M17 {
+        return contact_writer::write(out, name, info_from(values), edition);
+    }
+    unless(CONTACT_SIZE <= out.len(), Reason::ShortBuffer, 0)?;
+    unless(text::given_ok(name), Reason::Text, 0)?;
+    Err(Refusal {
+        reason: Reason::Mode,
+        place: CONTACT_MODE_AT,
+    })
+}
+
+// Writes a contact's 39 bytes.
+pub fn write(out: &mut [u8], name: &[u8], values: ContactValues, edition: Edition) -> RefusalAnswer
     ensures { ContactFromC edition out.old name.now values result out.new }
 {
-    let mode = values.mode;
-    if mode == contact::DMR || mode == contact::M17 {
-        let info = info_from(values);
-        return refusal_of(contact_writer::write(out, name, info, edition));
-    }
-    let short = unless(format::sizes::CONTACT_SIZE <= out.len(), SHORT_BUFFER, 0);
-    let text = unless(text::given_ok(name), format::refusals::TEXT, 0);
-    refusal_of(first(short, first(text, Validity::Refused(MODE, CONTACT_MODE_AT))))
+    write_known(out, name, values, edition).into()
 }

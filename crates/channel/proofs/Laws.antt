@@ -9,16 +9,16 @@ use lib.Dec.{leb, ltb, eqb}
 use borrow.Author.Tests.{ltb-true, ltb-false, le-leb, lt-leb, eq-eqb, ne_eqb, leb-true, leb-false, eqb-true}
 use Rattle.fields.specs.Bytes.{part, num}
 use Rattle.text.specs.Text.{text_ok}
-use Rattle.fields.specs.Rule.{◌then◌, field_of, field}
-use Rattle.fields.specs.declared.rule.Validity.{Validity}
-use Rattle.fields.specs.declared.rule.Validity.TheVariants.{Valid, Refused}
+use Rattle.fields.specs.Rule.{◌then◌, field_of, field, Validity, Valid}
 use Rattle.fields.proofs.Laws.{then-valid, both-valid, field-valid, field-passes, field_cut}
 use Rattle.bits.specs.Packed.{signed_of, number_flag_ok, nibbles_of}
 use Rattle.bits.proofs.Laws.{signed_of-low, signed_of-high, and_left, and_right, and_both}
 use Rattle.tones.specs.Tone.{tone_ok}
 use Rattle.channel.specs.Values.{mode_ok, latitude_ok, is_ninety, fraction_ok, latitude_fraction_ok, slot_ok, operation_ok, encryption_ok, contact_index_of}
 use Rattle.channel.specs.Rule.{head_rule, texts_rule, location_rule, fm_rule, dmr_rule, m17_rule, info_rule, channel_rule_by, channel_rule, named_contact}
-use Rattle.channel.specs.declared.ContactIndex.TheVariants.{Nobody}
+use Rattle.std.specs.Prelude.{Ok, Err, None, Option}
+use Rattle.format.specs.declared.refusals.Reason.TheVariants as reason
+use Rattle.format.specs.declared.refusals.Reason.{Reason}
 
 -- ---- a latitude by its byte
 
@@ -126,7 +126,7 @@ by_mode P (suc (suc m)) f d x = x (omega arith)
 -- ---- a valid record's fields, and its length
 
 -- the first of several fields that are all valid
-step : (left base k n number : ℕ) (ok : Bool) (v : Validity) → field_of left base k n number ok then v ≡ Valid
+step : (left base k n : ℕ) (number : Reason) (ok : Bool) (v : Validity) → field_of left base k n number ok then v ≡ Valid
     → (k + n ≤ left) × ((ok ≡ true) × (v ≡ Valid))
 step left base k n number ok v h =
     let g = then-valid (field_of left base k n number ok) v h in
@@ -223,6 +223,10 @@ module _ (s : List ℕ) (base : ℕ) where
         (λ e. (valid-dmr named (rw (info-dmr s base named e) at valid-info)).1.0)
         (λ e. (valid-m17 named (rw (info-m17 s base named e) at valid-info)).1.0)
 
+    -- the same, by a name that code can cite
+    pub valid_length : 90 ≤ length s
+    valid_length = valid-length
+
     -- beside FM the rule asks that the contact index names a contact
     pub valid-named : 1 ≤ get_or s 0 0 → named ≡ true
     valid-named l =
@@ -254,7 +258,7 @@ module _ (s : List ℕ) (base : ℕ) where
 -- ---- and back
 
 -- a valid field before others
-pass : (left base k n number : ℕ) (ok : Bool) (v : Validity) → k + n ≤ left → ok ≡ true → v ≡ Valid
+pass : (left base k n : ℕ) (number : Reason) (ok : Bool) (v : Validity) → k + n ≤ left → ok ≡ true → v ≡ Valid
     → field_of left base k n number ok then v ≡ Valid
 pass left base k n number ok v h g e =
     both-valid (field_of left base k n number ok) v (field-passes left base k n number ok h g) e
@@ -343,39 +347,39 @@ module _ (s : List ℕ) where
   unfolding named_contact
   m17-named e l = rw (ne_eqb (get_or s 0 0) 1 (omega arith), eq-eqb (get_or s 0 0) 2 e, le-leb 90 (length s) l)
 
-  pub fm-names-none : get_or s 0 0 ≡ 0 → named_contact s ≡ Nobody
+  pub fm-names-none : get_or s 0 0 ≡ 0 → named_contact s ≡ None
   unfolding named_contact
   fm-names-none e = rw (ne_eqb (get_or s 0 0) 1 (omega arith), ne_eqb (get_or s 0 0) 2 (omega arith))
 
-  pub no-mode-names-none : 2 < get_or s 0 0 → named_contact s ≡ Nobody
+  pub no-mode-names-none : 2 < get_or s 0 0 → named_contact s ≡ None
   unfolding named_contact
   no-mode-names-none e = rw (ne_eqb (get_or s 0 0) 1 (omega arith), ne_eqb (get_or s 0 0) 2 (omega arith))
 
   -- a record that ends inside its contact index or before it
-  pub cut-names-none : length s < 89 → named_contact s ≡ Nobody
+  pub cut-names-none : length s < 89 → named_contact s ≡ None
   unfolding named_contact
   cut-names-none l = rw (lt-leb 89 (length s) l, lt-leb 90 (length s) (omega arith)) (by (eqb (get_or s 0 0) 1) (eqb (get_or s 0 0) 2))
     where
-      by : (a b : Bool) → cond a Nobody (cond b Nobody Nobody) ≡ Nobody
+      by : (a b : Bool) → ◌≡◌ {A = Option ℕ} (cond a None (cond b None None)) None
       by true b = refl
       by false true = refl
       by false false = refl
 
-  pub cut-m17-names-none : get_or s 0 0 ≡ 2 → length s < 90 → named_contact s ≡ Nobody
+  pub cut-m17-names-none : get_or s 0 0 ≡ 2 → length s < 90 → named_contact s ≡ None
   unfolding named_contact
   cut-m17-names-none e l = rw (ne_eqb (get_or s 0 0) 1 (omega arith), eq-eqb (get_or s 0 0) 2 e, lt-leb 90 (length s) l)
 
 -- ---- whether the index names a contact is asked of a DMR or M17 record that holds its index whole, and of no other
 
 module _ (s : List ℕ) (base : ℕ) (a b : Bool) where
-  index-asked : (k : ℕ) → (k + 2 ≤ length s → a ≡ b) → field s base k 2 9 a ≡ field s base k 2 9 b
+  index-asked : (k : ℕ) → (k + 2 ≤ length s → a ≡ b) → field s base k 2 reason.ContactIndex a ≡ field s base k 2 reason.ContactIndex b
   index-asked k h = by (leb (k + 2) (length s)) refl
     where
-      by : (t : Bool) → leb (k + 2) (length s) ≡ t → field s base k 2 9 a ≡ field s base k 2 9 b
+      by : (t : Bool) → leb (k + 2) (length s) ≡ t → field s base k 2 reason.ContactIndex a ≡ field s base k 2 reason.ContactIndex b
       by true e = rw (h (leb-true (k + 2) (length s) e))
       by false e =
           let l : length s < k + 2 = leb-false (k + 2) (length s) e in
-          field_cut (length s) base k 2 9 a l ∙ sym (field_cut (length s) base k 2 9 b l)
+          field_cut (length s) base k 2 reason.ContactIndex a l ∙ sym (field_cut (length s) base k 2 reason.ContactIndex b l)
 
   module _ (d : get_or s 0 0 ≡ 1 → 89 ≤ length s → a ≡ b) (m : get_or s 0 0 ≡ 2 → 90 ≤ length s → a ≡ b) where
     dmr-asked : get_or s 0 0 ≡ 1 → dmr_rule s base a ≡ dmr_rule s base b
@@ -396,8 +400,8 @@ module _ (s : List ℕ) (base : ℕ) (a b : Bool) where
     -- whatever refuses the head, if it refuses a mode that is not there
     pub named-unread-by : (head : Validity) → (head ≡ Valid → get_or s 0 0 ≤ 2) → channel_rule_by head s base a ≡ channel_rule_by head s base b
     unfolding ◌then◌
-    named-unread-by Valid h = rw (info-unread (h refl))
-    named-unread-by (Refused n p) h = refl
+    named-unread-by (Ok u) h = rw (info-unread (h refl))
+    named-unread-by (Err e) h = refl
 
     pub named-unread : channel_rule s base a ≡ channel_rule s base b
     unfolding channel_rule

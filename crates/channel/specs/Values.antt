@@ -1,12 +1,10 @@
 -- Single values of a channel and their rules (document 01, "The file").
-use Rattle.std.specs.Prelude.{ℕ, Bool, false, ◌&&◌, ◌||◌, not, cond, leb, eqb, ℤ, pos, negsuc}
+use Rattle.std.specs.Prelude.{ℕ, Bool, false, ◌&&◌, ◌||◌, not, cond, leb, eqb, ℤ, pos, negsuc, Some, None, Option}
 use Rattle.bits.specs.Packed.{number_flag_of}
 use Rattle.bits.specs.declared.NumberFlag.{NumberFlag}
 use Rattle.channel.specs.declared.Traits.{Traits}
 use Rattle.channel.specs.declared.Info.{Info}
 use Rattle.channel.specs.declared.Info.TheVariants.{Fm, Dmr, M17}
-use Rattle.channel.specs.declared.ContactIndex.{ContactIndex}
-use Rattle.channel.specs.declared.ContactIndex.TheVariants as contact
 
 -- ---- values and their rules: `..Ok` speaks of what a file holds, `..Valid` and `..Given` of a value that a writer is given
 
@@ -67,12 +65,12 @@ abbrev pub contact_index_place : ℕ → ℕ
 contact_index_place m = cond (eqb m 1) dmr_contact_at m17_contact_at
 
 -- contact index: 65,535 means none
-unfoldable pub contact_index_of : ℕ → ContactIndex
-contact_index_of x = cond (eqb x 65535) contact.Nobody (contact.Index x)
+unfoldable pub contact_index_of : ℕ → Option ℕ
+contact_index_of x = cond (eqb x 65535) None (Some x)
 
-unfoldable pub contact_index_number : ContactIndex → ℕ
-contact_index_number contact.Nobody = 65535
-contact_index_number (contact.Index x) = x
+unfoldable pub contact_index_number : Option ℕ → ℕ
+contact_index_number None = 65535
+contact_index_number (Some x) = x
 
 -- a channel's mode by the paper's number
 unfoldable pub mode_number : Info → ℕ

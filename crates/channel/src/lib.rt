@@ -6,6 +6,7 @@ pub mod values; // values.rt: the rules of single values
 use bits::Nibbles;
 use tones::Tone;
 
+// The modes, and below the bandwidths, are numbers and no enum: a record may hold any byte there, and the writer takes any bandwidth and refuses it (`channel_writer::write`).
 pub const FM: u8 = 0;
 
 pub const DMR: u8 = 1;
@@ -51,25 +52,18 @@ pub struct Common {
     pub group_list: u8,
 }
 
-// The contact that a channel calls, or none: a blank is not contact 0.
-#[derive(Clone, Copy)]
-pub enum ContactIndex {
-    Nobody,
-    Index(u16),
-}
-
 #[derive(Clone, Copy)]
 pub struct FmInfo {
     pub receive: Tone,
     pub transmit: Tone,
 }
 
-// Colour codes: receive in the high nibble.
+// Colour codes: receive in the high nibble. The contact that the channel calls, or none: a blank is not contact 0.
 #[derive(Clone, Copy)]
 pub struct DmrInfo {
     pub colours: Nibbles,
     pub slot: u8,
-    pub contact: ContactIndex,
+    pub contact: Option<u16>,
 }
 
 // Channel access numbers: receive in the high nibble. Operation: 1 voice, 2 data, 3 both. Encryption: 0 plain, 1 AES-256, 2 scrambler.
@@ -79,7 +73,7 @@ pub struct M17Info {
     pub operation: u8,
     pub encryption: u8,
     pub position: bool,
-    pub contact: ContactIndex,
+    pub contact: Option<u16>,
 }
 
 #[derive(Clone, Copy)]

@@ -4,7 +4,7 @@ ghost use Rattle.bits.specs.Packed.{signed_of};
 ghost use Rattle.channel.specs.Rule.{index_at, named_contact};
 ghost use Rattle.channel.specs.Values.{traits_of, traits_number_flag, latitude_ok, latitude_fraction_ok, fraction_ok, slot_ok, operation_ok, encryption_ok, contact_index_place, contact_index_of, contact_index_number};
 
-use crate::{ContactIndex, Traits};
+use crate::Traits;
 use bits::NumberFlag;
 use fields::numbers::{byte_at, le16};
 use format::sizes::{DMR_CONTACT_AT, M17_CONTACT_AT};
@@ -73,38 +73,32 @@ pub fn contact_index_place(mode: u8) -> usize
     }
 }
 
-pub fn contact_index_of(x: u16) -> ContactIndex
+pub fn contact_index_of(x: u16) -> Option<u16>
     ensures { result ≡ contact_index_of x }
 {
-    if x == 65535 {
-        ContactIndex::Nobody
-    } else {
-        ContactIndex::Index(x)
-    }
+    if x == 65535 { None } else { Some(x) }
 }
 
-pub fn contact_index_number(c: ContactIndex) -> u16
+#[tactic(auto, unfolding(crate::specs::Values::contact_index_number))]
+pub fn contact_index_number(c: Option<u16>) -> u16
     ensures { result ≡ contact_index_number c }
 {
-    match c {
-        ContactIndex::Nobody => 65535,
-        ContactIndex::Index(x) => x,
-    }
+    c.unwrap_or(65535)
 }
 
 // The index at k of a channel; nobody where its two bytes are not all there.
-fn index_at(s: &[u8], k: usize) -> ContactIndex
+fn index_at(s: &[u8], k: usize) -> Option<u16>
     requires { k ≤ 88 }
     ensures { result ≡ index_at s.now k }
 {
     if s.len() < k + 2 {
-        return ContactIndex::Nobody;
+        return None;
     }
     contact_index_of(le16(s, k))
 }
 
 // The contact index of a DMR or M17 channel, where the record holds it whole; any other record has none.
-pub fn named_contact(s: &[u8]) -> ContactIndex
+pub fn named_contact(s: &[u8]) -> Option<u16>
     ensures { result ≡ named_contact s.now }
 {
     let m = byte_at(s, 0);
@@ -114,5 +108,5 @@ pub fn named_contact(s: &[u8]) -> ContactIndex
     if m == crate::M17 {
         return index_at(s, M17_CONTACT_AT);
     }
-    ContactIndex::Nobody
+    None
 }

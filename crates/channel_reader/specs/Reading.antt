@@ -1,23 +1,21 @@
 -- A channel's value, read from a valid record (document 01, "The file"): its common fields with one of three kinds of info.
-use Rattle.std.specs.Prelude.{ℕ, true, cond, List, get_or, eqb, pos}
+use Rattle.std.specs.Prelude.{Result, ℕ, true, cond, List, get_or, eqb, pos, Ok, Err}
 use Rattle.fields.specs.Bytes.{part, num, zeros}
-use Rattle.fields.specs.declared.rule.Validity.{Validity}
-use Rattle.fields.specs.declared.rule.Validity.TheVariants.{Valid, Refused}
 use Rattle.bits.specs.Packed.{nibbles_of, signed_of}
 use Rattle.tones.specs.Tone.{tone_of}
 use Rattle.tones.specs.declared.Tone.TheVariants.{Disabled}
 use Rattle.channel.specs.declared.Traits.{Traits}
 use Rattle.channel.specs.declared.Location.{Location}
 use Rattle.channel.specs.declared.Common.{Common}
-use Rattle.channel.specs.declared.ContactIndex.TheVariants as contact
 use Rattle.channel.specs.declared.FmInfo.{FmInfo}
 use Rattle.channel.specs.declared.DmrInfo.{DmrInfo}
 use Rattle.channel.specs.declared.M17Info.{M17Info}
 use Rattle.channel.specs.declared.Info.{Info}
 use Rattle.channel.specs.declared.Info.TheVariants.{Fm, Dmr, M17}
 use Rattle.channel.specs.declared.Channel.{Channel}
-use Rattle.channel_reader.specs.declared.ChannelRead.{ChannelRead}
 use Rattle.channel.specs.Values.{traits_of, dmr_contact_at, m17_contact_at, contact_index_of}
+use Rattle.fields.specs.Rule.{Validity, Valid}
+use Rattle.format.specs.declared.refusals.Refusal.{Refusal}
 
 -- ---- a valid record's value
 
@@ -91,7 +89,7 @@ blank_channel =
       info = Fm (record { receive = Disabled 0; transmit = Disabled 0 });
     }
 
--- the answer of a reader: the validity, and the record's value where it is valid
-unfoldable pub channel_answer : Validity → List ℕ → ChannelRead
-channel_answer Valid s = record { validity = Valid; channel = channel_of s }
-channel_answer (Refused n p) s = record { validity = Refused n p; channel = blank_channel }
+-- what a reader answers: the record's value where it is valid, else the refusal
+unfoldable pub channel_answer : Validity → List ℕ → Result Channel Refusal
+channel_answer (Ok u) s = Ok (channel_of s)
+channel_answer (Err e) s = Err e

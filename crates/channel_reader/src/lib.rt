@@ -4,6 +4,7 @@
 ghost use Rattle.std.specs.Prelude.{◌≡◌, true, ◌≤◌, length};
 ghost use Rattle.channel.specs.Rule.{channel_rule};
 ghost use Rattle.channel_reader.specs.Reading.{location_of, common_of, fm_of, dmr_of, m17_of, info_of, channel_of, blank_channel, channel_answer};
+ghost use Rattle.fields.specs.Rule.{Valid};
 
 use bits::{nibbles_of, signed_of};
 use channel::values::{contact_index_of, traits_of};
@@ -11,16 +12,9 @@ use channel::{Channel, Common, DmrInfo, FmInfo, Info, Location, M17Info, Traits}
 use channel_validation::validate;
 use fields::numbers::{byte_at, le16, le32};
 use fields::put::bytes32;
-use fields::rule::Validity;
+use format::refusals::Refusal;
 use format::sizes::{DMR_CONTACT_AT, M17_CONTACT_AT};
 use tones::{Tone, tone_of};
-
-// A reader's answer. Beside a refusal stands a blank channel.
-#[derive(Clone, Copy)]
-pub struct ChannelRead {
-    pub validity: Validity,
-    pub channel: Channel,
-}
 
 fn location_of(s: &[u8]) -> Location
     ensures { result ≡ location_of s.now }
@@ -99,7 +93,8 @@ fn info_of(s: &[u8]) -> Info
     Info::M17(m17_of(s))
 }
 
-fn channel_of(s: &[u8]) -> Channel
+// The value of a valid record.
+pub fn channel_of(s: &[u8]) -> Channel
     requires { 90 ≤ length s.now }
     ensures { result ≡ channel_of s.now }
 {
@@ -113,6 +108,7 @@ fn channel_of(s: &[u8]) -> Channel
     }
 }
 
+// What the C interface has beside a refusal.
 pub fn blank() -> Channel
     ensures { result ≡ blank_channel }
 {
@@ -148,27 +144,22 @@ pub fn blank() -> Channel
     }
 }
 
-// The answer for a validity on a record's bytes; `Valid` comes only with all 90 of them.
-pub fn answer(validity: Validity, s: &[u8]) -> ChannelRead
-    requires { validity ≡ Validity.Valid → 90 ≤ length s.now }
+// The channel in a valid record's bytes; `Ok` comes only with all 90 of them.
+#[tactic(auto, unfolding(crate::specs::Reading::channel_answer))]
+pub fn answer(validity: Result<(), Refusal>, s: &[u8]) -> Result<Channel, Refusal>
+    requires { validity ≡ Valid → 90 ≤ length s.now }
     ensures { result ≡ channel_answer validity s.now }
 {
-    match validity {
-        Validity::Valid => ChannelRead {
-            validity: Validity::Valid,
-            channel: channel_of(s),
-        },
-        Validity::Refused(n, p) => ChannelRead {
-            validity: Validity::Refused(n, p),
-            channel: blank(),
-        },
-    }
+    validity?;
+    Ok(channel_of(s))
 }
 
 // A channel from its record's bytes; what stands past 90 is not looked at. Whether its contact index names a contact is the file's to
 // say.
-pub fn read(s: &[u8]) -> ChannelRead
+#[tactic(auto, unfolding(crate::specs::Reading::channel_answer), using(channel::proofs::Laws::valid_length))]
+pub fn read(s: &[u8]) -> Result<Channel, Refusal>
     ensures { result ≡ channel_answer (channel_rule s.now 0 true) s.now }
 {
-    answer(validate(s, 0, true), s)
+    validate(s, 0, true)?;
+    Ok(channel_of(s))
 }

@@ -9,105 +9,104 @@ ghost use Rattle.channel.specs.Rule.{head_rule_by, texts_rule, location_rule, fm
 
 use channel::values::{fraction_ok, latitude_fraction_ok, latitude_ok, operation_ok, slot_ok};
 use fields::numbers::{byte_at, le16};
-use fields::rule::{Validity, field, first};
-use format::refusals::{CONTACT_INDEX, MODE, VALUE};
+use fields::rule::field;
+use format::refusals::{Reason, Refusal};
 use format::sizes::{DMR_CONTACT_AT, M17_CONTACT_AT};
 use text::text_field;
 use tones::tone_ok;
 
-fn validate_head(s: &[u8], base: usize, traits: bool) -> Validity
+#[tactic(auto, unfolding(channel::specs::Values::mode_ok), using(fields::proofs::Laws::ok_then, fields::proofs::Laws::err_then))]
+fn validate_head(s: &[u8], base: usize, traits: bool) -> Result<(), Refusal>
     requires { base < 2 ^ 62 }
     ensures { result ≡ head_rule_by traits s.now base }
 {
     let left = s.len();
-    let mode = field(left, base, 0, 1, MODE, byte_at(s, 0) <= 2);
-    let bandwidth = field(left, base, 1, 1, VALUE, traits);
-    let power = field(left, base, 2, 1, VALUE, true);
-    let receive = field(left, base, 3, 4, VALUE, true);
-    let transmit = field(left, base, 7, 4, VALUE, true);
-    let scan = field(left, base, 11, 1, VALUE, byte_at(s, 11) <= 250);
-    let group = field(left, base, 12, 1, VALUE, byte_at(s, 12) <= 128);
-    first(
-        mode,
-        first(
-            bandwidth,
-            first(power, first(receive, first(transmit, first(scan, group)))),
-        ),
-    )
+    field(left, base, 0, 1, Reason::Mode, byte_at(s, 0) <= 2)?;
+    field(left, base, 1, 1, Reason::Value, traits)?;
+    field(left, base, 2, 1, Reason::Value, true)?;
+    field(left, base, 3, 4, Reason::Value, true)?;
+    field(left, base, 7, 4, Reason::Value, true)?;
+    field(left, base, 11, 1, Reason::Value, byte_at(s, 11) <= 250)?;
+    field(left, base, 12, 1, Reason::Value, byte_at(s, 12) <= 128)
 }
 
-fn validate_texts(s: &[u8], base: usize) -> Validity
+#[tactic(auto, unfolding(channel::specs::Rule::texts_rule), using(fields::proofs::Laws::ok_then, fields::proofs::Laws::err_then))]
+fn validate_texts(s: &[u8], base: usize) -> Result<(), Refusal>
     requires { base < 2 ^ 62 }
     ensures { result ≡ texts_rule s.now base }
 {
-    let name = text_field(s, base, 13);
-    let description = text_field(s, base, 45);
-    first(name, description)
+    text_field(s, base, 13)?;
+    text_field(s, base, 45)
 }
 
-fn validate_location(s: &[u8], base: usize) -> Validity
+#[tactic(auto, unfolding(channel::specs::Rule::location_rule), using(fields::proofs::Laws::ok_then, fields::proofs::Laws::err_then))]
+fn validate_location(s: &[u8], base: usize) -> Result<(), Refusal>
     requires { base < 2 ^ 62 }
     ensures { result ≡ location_rule s.now base }
 {
     let left = s.len();
     let floor = byte_at(s, 77);
-    let latitude = field(left, base, 77, 1, VALUE, latitude_ok(floor));
-    let above = field(
+    field(left, base, 77, 1, Reason::Value, latitude_ok(floor))?;
+    field(
         left,
         base,
         78,
         2,
-        VALUE,
+        Reason::Value,
         latitude_fraction_ok(floor, le16(s, 78)),
-    );
-    let longitude = field(left, base, 80, 1, VALUE, true);
-    let beyond = field(left, base, 81, 2, VALUE, fraction_ok(le16(s, 81)));
-    let altitude = field(left, base, 83, 2, VALUE, true);
-    first(
-        latitude,
-        first(above, first(longitude, first(beyond, altitude))),
-    )
+    )?;
+    field(left, base, 80, 1, Reason::Value, true)?;
+    field(left, base, 81, 2, Reason::Value, fraction_ok(le16(s, 81)))?;
+    field(left, base, 83, 2, Reason::Value, true)
 }
 
-fn validate_fm(s: &[u8], base: usize) -> Validity
+#[tactic(auto, unfolding(channel::specs::Rule::fm_rule), using(fields::proofs::Laws::ok_then, fields::proofs::Laws::err_then))]
+fn validate_fm(s: &[u8], base: usize) -> Result<(), Refusal>
     requires { base < 2 ^ 62 }
     ensures { result ≡ fm_rule s.now base }
 {
     let left = s.len();
-    let receive = field(left, base, 85, 1, VALUE, tone_ok(byte_at(s, 85)));
-    let transmit = field(left, base, 86, 1, VALUE, tone_ok(byte_at(s, 86)));
-    let pad = field(left, base, 87, 1, VALUE, byte_at(s, 87) == 0);
-    let second = field(left, base, 88, 1, VALUE, byte_at(s, 88) == 0);
-    let third = field(left, base, 89, 1, VALUE, byte_at(s, 89) == 0);
-    first(receive, first(transmit, first(pad, first(second, third))))
+    field(left, base, 85, 1, Reason::Value, tone_ok(byte_at(s, 85)))?;
+    field(left, base, 86, 1, Reason::Value, tone_ok(byte_at(s, 86)))?;
+    field(left, base, 87, 1, Reason::Value, byte_at(s, 87) == 0)?;
+    field(left, base, 88, 1, Reason::Value, byte_at(s, 88) == 0)?;
+    field(left, base, 89, 1, Reason::Value, byte_at(s, 89) == 0)
 }
 
-fn validate_dmr(s: &[u8], base: usize, named: bool) -> Validity
+#[tactic(auto, unfolding(channel::specs::Rule::dmr_rule), using(fields::proofs::Laws::ok_then, fields::proofs::Laws::err_then))]
+fn validate_dmr(s: &[u8], base: usize, named: bool) -> Result<(), Refusal>
     requires { base < 2 ^ 62 }
     ensures { result ≡ dmr_rule s.now base named }
 {
     let left = s.len();
-    let colours = field(left, base, 85, 1, VALUE, true);
-    let slot = field(left, base, 86, 1, VALUE, slot_ok(byte_at(s, 86)));
-    let contact = field(left, base, DMR_CONTACT_AT, 2, CONTACT_INDEX, named);
-    let pad = field(left, base, 89, 1, VALUE, byte_at(s, 89) == 0);
-    first(colours, first(slot, first(contact, pad)))
+    field(left, base, 85, 1, Reason::Value, true)?;
+    field(left, base, 86, 1, Reason::Value, slot_ok(byte_at(s, 86)))?;
+    field(left, base, DMR_CONTACT_AT, 2, Reason::ContactIndex, named)?;
+    field(left, base, 89, 1, Reason::Value, byte_at(s, 89) == 0)
 }
 
-fn validate_m17(s: &[u8], base: usize, named: bool) -> Validity
+#[tactic(auto, unfolding(channel::specs::Rule::m17_rule), using(fields::proofs::Laws::ok_then, fields::proofs::Laws::err_then))]
+fn validate_m17(s: &[u8], base: usize, named: bool) -> Result<(), Refusal>
     requires { base < 2 ^ 62 }
     ensures { result ≡ m17_rule s.now base named }
 {
     let left = s.len();
     let h = bits::nibbles_of(byte_at(s, 86));
-    let access = field(left, base, 85, 1, VALUE, true);
-    let operation = field(left, base, 86, 1, VALUE, operation_ok(h.high, h.low));
-    let position = field(left, base, 87, 1, VALUE, byte_at(s, 87) <= 1);
-    let contact = field(left, base, M17_CONTACT_AT, 2, CONTACT_INDEX, named);
-    first(access, first(operation, first(position, contact)))
+    field(left, base, 85, 1, Reason::Value, true)?;
+    field(
+        left,
+        base,
+        86,
+        1,
+        Reason::Value,
+        operation_ok(h.high, h.low),
+    )?;
+    field(left, base, 87, 1, Reason::Value, byte_at(s, 87) <= 1)?;
+    field(left, base, M17_CONTACT_AT, 2, Reason::ContactIndex, named)
 }
 
-fn validate_info(s: &[u8], base: usize, named: bool) -> Validity
+#[tactic(auto, unfolding(channel::specs::Rule::info_rule))]
+fn validate_info(s: &[u8], base: usize, named: bool) -> Result<(), Refusal>
     requires { base < 2 ^ 62 }
     ensures { result ≡ info_rule s.now base named }
 {
@@ -122,18 +121,19 @@ fn validate_info(s: &[u8], base: usize, named: bool) -> Validity
 }
 
 // Whether the traits byte is within its rule comes in as `traits`.
-pub fn validate_by(s: &[u8], base: usize, named: bool, traits: bool) -> Validity
+#[tactic(auto, using(fields::proofs::Laws::ok_then, fields::proofs::Laws::err_then))]
+pub fn validate_by(s: &[u8], base: usize, named: bool, traits: bool) -> Result<(), Refusal>
     requires { base < 2 ^ 62 }
     ensures { result ≡ channel_rule_by (head_rule_by traits s.now base) s.now base named }
 {
-    let head = validate_head(s, base, traits);
-    let texts = validate_texts(s, base);
-    let location = validate_location(s, base);
-    let info = validate_info(s, base, named);
-    first(head, first(texts, first(location, info)))
+    validate_head(s, base, traits)?;
+    validate_texts(s, base)?;
+    validate_location(s, base)?;
+    validate_info(s, base, named)
 }
 
-pub fn validate(s: &[u8], base: usize, named: bool) -> Validity
+#[tactic(auto, unfolding(channel::specs::Rule::channel_rule, channel::specs::Rule::head_rule))]
+pub fn validate(s: &[u8], base: usize, named: bool) -> Result<(), Refusal>
     requires { base < 2 ^ 62 }
     ensures { result ≡ channel_rule s.now base named }
 {

@@ -84,6 +84,7 @@ pub fn is_valid_by(s: &[u8], named: bool, traits: bool) -> bool
     head & (texts & (location & info_valid(all, named)))
 }
 
+#[tactic(auto, unfolding(channel::specs::Rule::channel_rule, channel::specs::Rule::head_rule))]
 pub fn is_valid(s: &[u8], named: bool) -> bool
     requires { length s.now ≡ 90 }
     ensures { (base : ℕ) → result ≡ is_valid (channel_rule s.now base named) }

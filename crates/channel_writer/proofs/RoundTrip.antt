@@ -16,7 +16,6 @@ use mir.Val.{SFits}
 use borrow.Author.Tests.{leb-true, le-leb, eqb-true, eq-eqb, ne_eqb}
 use Rattle.fields.specs.Bytes.{part, little_bytes, num}
 use Rattle.text.specs.Text.{text_ok, given_ok, text_of, padded}
-use Rattle.fields.specs.declared.rule.Validity.TheVariants.{Valid}
 use Rattle.fields.proofs.Laws.{bytes-nil, bytes-cons, bytes-append, bytes-zeros, bytes-little_bytes}
 use Rattle.fields.proofs.Laws.{AllBytes, Long, long-append, length_part, part_at, part-cons, part-add, little-little_bytes, little_bytes-num, num-lt}
 use Rattle.text.proofs.Laws.{given_ok-length, given_ok-plain, plain_text-bytes, text_ok-padded, text_of-padded, given-text_of, padded-text_of}
@@ -25,16 +24,12 @@ use Rattle.bits.proofs.Laws.{i8_range, i8_range-fits, fits-i8_range, signed_of-r
 use Rattle.bits.proofs.Laws.{number_flag_byte-lt, nibbles_byte-lt, signed_byte-lt, number_flag_byte-of, number_flag_valid-of, nibbles_byte-of, nibbles_valid-of, signed_byte-of}
 use Rattle.tones.specs.Tone.{tone_byte}
 use Rattle.tones.proofs.Laws.{tone-returns, tone_ok-byte, tone_byte-of, tone_valid-of, tone_byte-lt}
-use Rattle.channel.specs.Values.{slot_ok, operation_ok, encryption_ok}
-use Rattle.channel.specs.Values.{traits_of, traits_number_flag, latitude_ok, is_ninety, fraction_ok, latitude_fraction_ok, contact_index_of, contact_index_number}
+use Rattle.channel.specs.Values.{slot_ok, operation_ok, encryption_ok, traits_of, traits_number_flag, latitude_ok, is_ninety, fraction_ok, latitude_fraction_ok, contact_index_of, contact_index_number, mode_number}
 use Rattle.channel.specs.Rule.{channel_rule}
 use Rattle.channel_reader.specs.Reading.{location_of, common_of, fm_of, dmr_of, m17_of, info_of, channel_of}
 use Rattle.channel_writer.specs.Writing.{info_write_rule, channel_write_rule, head_bytes, location_bytes, info_bytes, channel_bytes}
-use Rattle.channel.specs.Values.{mode_number}
 use Rattle.channel.specs.declared.Traits.{Traits}
 use Rattle.channel.specs.declared.Common.{Common}
-use Rattle.channel.specs.declared.ContactIndex.{ContactIndex}
-use Rattle.channel.specs.declared.ContactIndex.TheVariants.{Nobody, Index}
 use Rattle.channel.specs.declared.FmInfo.{FmInfo}
 use Rattle.channel.specs.declared.DmrInfo.{DmrInfo}
 use Rattle.channel.specs.declared.M17Info.{M17Info}
@@ -46,6 +41,8 @@ use Rattle.channel_writer.proofs.WriteLaws.{Writable, WritableHead, WritableLoca
 use Rattle.channel_writer.proofs.WriteLaws.{head-writable, location-writable, fm-writable, dmr-writable, m17-writable, use-nibbles}
 use Rattle.channel_writer.proofs.WriteLaws.{head-passes, location-passes, fm-passes, dmr-passes, m17-passes}
 use Rattle.channel_writer.proofs.WriteLaws.{long-head, long-padded, long-record}
+use Rattle.std.specs.Prelude.{Some, None, Option}
+use Rattle.fields.specs.Rule.{Valid}
 
 -- ---- what is given beside the rules, which bound every other value
 
@@ -56,9 +53,9 @@ contact_number (Dmr i) = contact_index_number i.contact
 contact_number (M17 i) = contact_index_number i.contact
 
 -- a contact index in its one form: 65,535 is nobody, and no index
-unfoldable pub contact_proper : ContactIndex → Bool
-contact_proper Nobody = true
-contact_proper (Index x) = not (eqb x 65535)
+unfoldable pub contact_proper : Option ℕ → Bool
+contact_proper None = true
+contact_proper (Some x) = not (eqb x 65535)
 
 abbrev pub info_proper : Info → Bool
 info_proper (Fm i) = true
@@ -94,13 +91,13 @@ traits-returns : (t : Traits) → number_flag_valid (traits_number_flag t) ≡ t
 unfolding traits_of traits_number_flag
 traits-returns t h = rw (number-flag-returns (traits_number_flag t) h)
 
-contact-returns : (c : ContactIndex) → contact_proper c ≡ true → contact_index_of (contact_index_number c) ≡ c
+contact-returns : (c : (Option ℕ)) → contact_proper c ≡ true → contact_index_of (contact_index_number c) ≡ c
 unfolding contact_index_of contact_index_number contact_proper
-contact-returns Nobody h = refl
-contact-returns (Index x) h = at (eqb x 65535) h
+contact-returns None h = refl
+contact-returns (Some x) h = at (eqb x 65535) h
   where
-    at : (t : Bool) → not t ≡ true → cond t Nobody (Index x) ≡ Index x
-    at true e = ap (λ (b : Bool). cond b (Index x) Nobody) e
+    at : (t : Bool) → not t ≡ true → cond t None (Some x) ≡ Some x
+    at true e = ap (λ (b : Bool). cond b (Some x) None) e
     at false e = refl
 
 -- ---- where each field stands in the written bytes
@@ -450,7 +447,7 @@ contact_number-of : (x : ℕ) → contact_index_number (contact_index_of x) ≡ 
 unfolding contact_index_number contact_index_of
 contact_number-of x = at (eqb x 65535) refl
   where
-    at : (t : Bool) → eqb x 65535 ≡ t → contact_index_number (cond t Nobody (Index x)) ≡ x
+    at : (t : Bool) → eqb x 65535 ≡ t → contact_index_number (cond t None (Some x)) ≡ x
     at true e = sym (eqb-true x 65535 e)
     at false e = refl
 
@@ -458,7 +455,7 @@ contact_proper-of : (x : ℕ) → contact_proper (contact_index_of x) ≡ true
 unfolding contact_proper contact_index_of
 contact_proper-of x = at (eqb x 65535) refl
   where
-    at : (t : Bool) → eqb x 65535 ≡ t → contact_proper (cond t Nobody (Index x)) ≡ true
+    at : (t : Bool) → eqb x 65535 ≡ t → contact_proper (cond t None (Some x)) ≡ true
     at true e = refl
     at false e = rw e
 

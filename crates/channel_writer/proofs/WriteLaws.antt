@@ -15,9 +15,7 @@ use mir.ValLaws.{to_z-of_z}
 use borrow.Author.Tests.{leb-true, le-leb}
 use Rattle.fields.specs.Bytes.{zeros, over, little_bytes}
 use Rattle.text.specs.Text.{given_ok, padded}
-use Rattle.fields.specs.Rule.{◌then◌, unless}
-use Rattle.fields.specs.declared.rule.Validity.{Validity}
-use Rattle.fields.specs.declared.rule.Validity.TheVariants.{Valid, Refused}
+use Rattle.fields.specs.Rule.{◌then◌, unless, Validity, Valid, Refused}
 use Rattle.fields.proofs.Laws.{Long, long-append, length-zeros, zeros-append, drop-zeros, over-over, over-front-at}
 use Rattle.fields.proofs.Laws.{then-valid, both-valid, unless-valid, unless-passes, written-valid, written-refused}
 use Rattle.text.proofs.Laws.{given_ok-length, length-padded}
@@ -25,9 +23,8 @@ use Rattle.bits.specs.declared.Nibbles.{Nibbles}
 use Rattle.bits.specs.Packed.{number_flag_valid, nibbles_valid, signed_of, signed_byte}
 use Rattle.bits.proofs.Laws.{signed-returns, i8_range-fits, and_left, and_right, and_both}
 use Rattle.tones.specs.Tone.{tone_valid}
-use Rattle.channel.specs.Values.{traits_number_flag, latitude_ok, latitude_fraction_ok, fraction_ok, slot_ok, operation_ok, encryption_ok}
+use Rattle.channel.specs.Values.{traits_number_flag, latitude_ok, latitude_fraction_ok, fraction_ok, slot_ok, operation_ok, encryption_ok, mode_number}
 use Rattle.channel_writer.specs.Writing.{head_write_rule, location_write_rule, info_write_rule, channel_write_rule}
-use Rattle.channel.specs.Values.{mode_number}
 use Rattle.channel_writer.specs.Writing.{head_bytes, location_bytes, info_bytes, channel_bytes, channel_written}
 use Rattle.channel.specs.declared.Location.{Location}
 use Rattle.channel.specs.declared.Common.{Common}
@@ -36,14 +33,15 @@ use Rattle.channel.specs.declared.DmrInfo.{DmrInfo}
 use Rattle.channel.specs.declared.M17Info.{M17Info}
 use Rattle.channel.specs.declared.Info.{Info}
 use Rattle.channel.specs.declared.Info.TheVariants.{Fm, Dmr, M17}
+use Rattle.format.specs.declared.refusals.Reason.{Reason}
 
 -- ---- a signed field that is handed on as its bits
 
-pub i8-passed : (z : ℤ) → mag z < 128 → to_z w8 (of_z w8 z) ≡ z
-i8-passed z f = to_z-of_z w8 z (record { sfits = f })
+pub i8_passed : (z : ℤ) → mag z < 128 → to_z w8 (of_z w8 z) ≡ z
+i8_passed z f = to_z-of_z w8 z (record { sfits = f })
 
-pub i8-byte : (z : ℤ) → mag z < 128 → signed_of (signed_byte z) ≡ z
-i8-byte z f = signed-returns z (i8_range-fits z (record { sfits = f }))
+pub i8_byte : (z : ℤ) → mag z < 128 → signed_of (signed_byte z) ≡ z
+i8_byte z f = signed-returns z (i8_range-fits z (record { sfits = f }))
 
 -- a flag as a byte
 pub flag-byte : (b : Bool) → bool_byte b ≡ cond b 1 0
@@ -90,13 +88,13 @@ three-valid a b c h =
 three-pass : (a b c : Validity) → a ≡ Valid → b ≡ Valid → c ≡ Valid → (a then b then c) ≡ Valid
 three-pass a b c f g h = both-valid a (b then c) f (both-valid b c g h)
 
-three-tests : (p q r : Bool) (k l m i j n : ℕ) → (unless p k i then unless q l j then unless r m n) ≡ Valid
+three-tests : (p q r : Bool) (k : Reason) (l : Reason) (m : Reason) (i j n : ℕ) → (unless p k i then unless q l j then unless r m n) ≡ Valid
     → (p ≡ true) × ((q ≡ true) × (r ≡ true))
 three-tests p q r k l m i j n h =
     let f = three-valid (unless p k i) (unless q l j) (unless r m n) h in
     (unless-valid p k i f.0, (unless-valid q l j f.1.0, unless-valid r m n f.1.1))
 
-tests-three : (p q r : Bool) (k l m i j n : ℕ) → p ≡ true → q ≡ true → r ≡ true
+tests-three : (p q r : Bool) (k : Reason) (l : Reason) (m : Reason) (i j n : ℕ) → p ≡ true → q ≡ true → r ≡ true
     → (unless p k i then unless q l j then unless r m n) ≡ Valid
 tests-three p q r k l m i j n e f g =
     three-pass (unless p k i) (unless q l j) (unless r m n) (unless-passes p k i e) (unless-passes q l j f) (unless-passes r m n g)
@@ -313,32 +311,15 @@ module _ (name description : List ℕ) (common : Common) (info : Info) where
       (long-append (long-padded description (given_ok-length description g.second))
       (long-append (long-location common.location) (long-info info))))
 
--- ---- the buffer that a writer leaves
+-- ---- what is valid in this room
 
--- v is the validity of what was given
-module _ (v : Validity) (size : ℕ) (name description : List ℕ) (common : Common) (info : Info)
-    (e : v ≡ channel_write_rule size name description common info) where
-  -- what is valid in this room is valid in 90 bytes
-  pub write-rule : v ≡ Valid → channel_write_rule 90 name description common info ≡ Valid
-  write-rule g =
-      rule-passes 90 name description common info (omega arith) (writable-by size name description common info (sym e ∙ g))
+module _ (size : ℕ) (name description : List ℕ) (common : Common) (info : Info) where
+  -- is valid in 90 bytes
+  pub rule_in_90 : channel_write_rule size name description common info ≡ Valid → channel_write_rule 90 name description common info ≡ Valid
+  rule_in_90 h = rule-passes 90 name description common info (omega arith) (writable-by size name description common info h)
 
-  -- the record r fits
-  pub write-room : (r : List ℕ) → v ≡ Valid → r ≡ channel_bytes name description common info → 0 + length r ≤ size
-  write-room r g f =
-      let h : channel_write_rule size name description common info ≡ Valid = sym e ∙ g in
-      rw (f, (long-record name description common info (writable-by size name description common info h)).long)
+  -- and fits
+  pub rule_fits : channel_write_rule size name description common info ≡ Valid → length (channel_bytes name description common info) ≤ size
+  rule_fits h =
+      rw (long-record name description common info (writable-by size name description common info h)).long
       (rule-room size name description common info h)
-
-module _ (v : Validity) (out name description : List ℕ) (common : Common) (info : Info)
-    (e : v ≡ channel_write_rule (length out) name description common info) where
-  -- u is the buffer afterwards
-  pub write-valid : (u r : List ℕ) → v ≡ Valid → r ≡ channel_bytes name description common info → u ≡ over out 0 r
-      → (Valid ≡ channel_write_rule (length out) name description common info) × (u ≡ channel_written out name description common info)
-  unfolding channel_written
-  write-valid u r g f h = (sym g ∙ e, rw (h, f) (sym (written-valid _ out _ (sym e ∙ g))))
-
-  pub write-refused : (n p : ℕ) → v ≡ Refused n p
-      → (Refused n p ≡ channel_write_rule (length out) name description common info) × (out ≡ channel_written out name description common info)
-  unfolding channel_written
-  write-refused n p g = (sym g ∙ e, sym (written-refused _ out _ n p (sym e ∙ g)))

@@ -1,46 +1,45 @@
--- A channel's value written to its record (document 01, "The refusals, by number"): 25, then the fields in order.
+-- A channel's value written to its record (document 01, "The refusals, by number"): a buffer that is too short, then the fields in order.
 use Rattle.std.specs.Prelude.{ℕ, ◌+◌, ◌&&◌, cond, List, [], ◌∷◌, ◌++◌, length, leb}
 use Rattle.fields.specs.Bytes.{little_bytes}
 use Rattle.text.specs.Text.{given_ok, padded}
-use Rattle.fields.specs.Rule.{◌then◌, unless, written}
-use Rattle.fields.specs.declared.rule.Validity.{Validity}
+use Rattle.fields.specs.Rule.{◌then◌, unless, written, Validity}
 use Rattle.bits.specs.Packed.{number_flag_byte, number_flag_valid, nibbles_byte, nibbles_valid, signed_byte}
 use Rattle.tones.specs.Tone.{tone_byte, tone_valid}
 use Rattle.channel.specs.declared.Location.{Location}
 use Rattle.channel.specs.declared.Common.{Common}
-use Rattle.channel.specs.declared.ContactIndex.TheVariants as contact
 use Rattle.channel.specs.declared.Info.{Info}
 use Rattle.channel.specs.declared.Info.TheVariants.{Fm, Dmr, M17}
 use Rattle.channel.specs.Values.{mode_number, traits_number_flag, scan_list_ok, group_list_ok, latitude_ok, fraction_ok, latitude_fraction_ok, slot_ok, operation_ok, encryption_ok, contact_index_number}
+use Rattle.format.specs.declared.refusals.Reason.TheVariants as reason
 
--- ---- writing: 25, then the fields in order
+-- ---- writing: a buffer that is too short, then the fields in order
 
 unfoldable pub head_write_rule : Common → Validity
 head_write_rule c =
-    unless (number_flag_valid (traits_number_flag c.traits)) 7 1
-    then unless (scan_list_ok c.scan_list) 7 11
-    then unless (group_list_ok c.group_list) 7 12
+    unless (number_flag_valid (traits_number_flag c.traits)) reason.Value 1
+    then unless (scan_list_ok c.scan_list) reason.Value 11
+    then unless (group_list_ok c.group_list) reason.Value 12
 
 unfoldable pub location_write_rule : Location → Validity
 location_write_rule l =
-    unless (latitude_ok l.latitude) 7 77
-    then unless (latitude_fraction_ok l.latitude l.latitude_e4) 7 78
-    then unless (fraction_ok l.longitude_e4) 7 81
+    unless (latitude_ok l.latitude) reason.Value 77
+    then unless (latitude_fraction_ok l.latitude l.latitude_e4) reason.Value 78
+    then unless (fraction_ok l.longitude_e4) reason.Value 81
 
 -- a written contact index is validated in the whole file only
 unfoldable pub info_write_rule : Info → Validity
-info_write_rule (Fm i) = unless (tone_valid i.receive) 7 85 then unless (tone_valid i.transmit) 7 86
-info_write_rule (Dmr i) = unless (nibbles_valid i.colours) 7 85 then unless (slot_ok i.slot) 7 86
+info_write_rule (Fm i) = unless (tone_valid i.receive) reason.Value 85 then unless (tone_valid i.transmit) reason.Value 86
+info_write_rule (Dmr i) = unless (nibbles_valid i.colours) reason.Value 85 then unless (slot_ok i.slot) reason.Value 86
 info_write_rule (M17 i) =
-    unless (nibbles_valid i.access) 7 85
-    then unless (operation_ok i.operation && encryption_ok i.encryption) 7 86
+    unless (nibbles_valid i.access) reason.Value 85
+    then unless (operation_ok i.operation && encryption_ok i.encryption) reason.Value 86
 
 unfoldable pub channel_write_rule : ℕ → List ℕ → List ℕ → Common → Info → Validity
 channel_write_rule size name description common info =
-    unless (leb 90 size) 25 0
+    unless (leb 90 size) reason.ShortBuffer 0
     then head_write_rule common
-    then unless (given_ok name) 5 13
-    then unless (given_ok description) 5 45
+    then unless (given_ok name) reason.Text 13
+    then unless (given_ok description) reason.Text 45
     then location_write_rule common.location
     then info_write_rule info
 

@@ -1,10 +1,11 @@
-// A channel's value to its bytes: 25, then the fields in order; a refusal changes nothing.
+// A channel's value to its bytes: a buffer that is too short, then the fields in order; a refusal changes nothing.
 #![tactic(auto)]
 
 ghost use Rattle.std.specs.Prelude.{◌≡◌, ◌++◌, length, take, drop};
 ghost use Rattle.fields.specs.Bytes.{zeros, over};
 ghost use Rattle.channel_writer.specs.Writing.{head_write_rule, location_write_rule, info_write_rule, channel_write_rule, head_bytes, location_bytes, info_bytes, channel_bytes, channel_written};
 ghost use Rattle.channel.specs.Values.{mode_number};
+ghost use Rattle.fields.specs.Rule.{Valid};
 
 use bits::{
     Nibbles, nibbles_byte, nibbles_valid, number_flag_byte, number_flag_valid, signed_byte,
@@ -15,59 +16,63 @@ use channel::values::{
 };
 use channel::{Common, DmrInfo, FmInfo, Info, Location, M17Info};
 use fields::put::{put, put_byte, put_le16, put_le32};
-use fields::rule::{Validity, first, unless};
-use format::refusals::{SHORT_BUFFER, TEXT, VALUE};
+use fields::rule::unless;
+use format::refusals::{Reason, Refusal};
 use format::sizes::{CHANNEL_SIZE, DMR_CONTACT_AT, M17_CONTACT_AT};
 use text::given_ok;
 use tones::{tone_byte, tone_valid};
 
-fn validate_head(c: Common) -> Validity
+#[tactic(auto, unfolding(crate::specs::Writing::head_write_rule), using(fields::proofs::Laws::ok_then, fields::proofs::Laws::err_then))]
+fn validate_head(c: Common) -> Result<(), Refusal>
     ensures { result ≡ head_write_rule c }
 {
     let t = c.traits;
-    let traits = unless(number_flag_valid(traits_number_flag(t)), VALUE, 1);
-    let scan = unless(c.scan_list <= 250, VALUE, 11);
-    let group = unless(c.group_list <= 128, VALUE, 12);
-    first(traits, first(scan, group))
+    unless(number_flag_valid(traits_number_flag(t)), Reason::Value, 1)?;
+    unless(c.scan_list <= 250, Reason::Value, 11)?;
+    unless(c.group_list <= 128, Reason::Value, 12)
 }
 
-fn validate_location(l: Location) -> Validity
+#[tactic(auto, unfolding(crate::specs::Writing::location_write_rule), using(fields::proofs::Laws::ok_then, fields::proofs::Laws::err_then, crate::proofs::WriteLaws::i8_passed, crate::proofs::WriteLaws::i8_byte))]
+fn validate_location(l: Location) -> Result<(), Refusal>
     ensures { result ≡ location_write_rule l }
 {
     let floor = signed_byte(l.latitude);
-    let latitude = unless(latitude_ok(floor), VALUE, 77);
-    let above = unless(latitude_fraction_ok(floor, l.latitude_e4), VALUE, 78);
-    let beyond = unless(fraction_ok(l.longitude_e4), VALUE, 81);
-    first(latitude, first(above, beyond))
+    unless(latitude_ok(floor), Reason::Value, 77)?;
+    unless(
+        latitude_fraction_ok(floor, l.latitude_e4),
+        Reason::Value,
+        78,
+    )?;
+    unless(fraction_ok(l.longitude_e4), Reason::Value, 81)
 }
 
-fn validate_fm(i: FmInfo) -> Validity
+#[tactic(auto, unfolding(crate::specs::Writing::info_write_rule), using(fields::proofs::Laws::ok_then, fields::proofs::Laws::err_then))]
+fn validate_fm(i: FmInfo) -> Result<(), Refusal>
     ensures { result ≡ info_write_rule (Info.Fm i) }
 {
     let receive = i.receive;
     let transmit = i.transmit;
-    let a = unless(tone_valid(receive), VALUE, 85);
-    let b = unless(tone_valid(transmit), VALUE, 86);
-    first(a, b)
+    unless(tone_valid(receive), Reason::Value, 85)?;
+    unless(tone_valid(transmit), Reason::Value, 86)
 }
 
-fn validate_dmr(i: DmrInfo) -> Validity
+#[tactic(auto, unfolding(crate::specs::Writing::info_write_rule), using(fields::proofs::Laws::ok_then, fields::proofs::Laws::err_then))]
+fn validate_dmr(i: DmrInfo) -> Result<(), Refusal>
     ensures { result ≡ info_write_rule (Info.Dmr i) }
 {
-    let colours = unless(nibbles_valid(i.colours), VALUE, 85);
-    let slot = unless(slot_ok(i.slot), VALUE, 86);
-    first(colours, slot)
+    unless(nibbles_valid(i.colours), Reason::Value, 85)?;
+    unless(slot_ok(i.slot), Reason::Value, 86)
 }
 
-fn validate_m17(i: M17Info) -> Validity
+#[tactic(auto, unfolding(crate::specs::Writing::info_write_rule), using(fields::proofs::Laws::ok_then, fields::proofs::Laws::err_then))]
+fn validate_m17(i: M17Info) -> Result<(), Refusal>
     ensures { result ≡ info_write_rule (Info.M17 i) }
 {
-    let access = unless(nibbles_valid(i.access), VALUE, 85);
-    let operation = unless(operation_ok(i.operation, i.encryption), VALUE, 86);
-    first(access, operation)
+    unless(nibbles_valid(i.access), Reason::Value, 85)?;
+    unless(operation_ok(i.operation, i.encryption), Reason::Value, 86)
 }
 
-fn validate_info(info: Info) -> Validity
+fn validate_info(info: Info) -> Result<(), Refusal>
     ensures { result ≡ info_write_rule info }
 {
     match info {
@@ -78,27 +83,22 @@ fn validate_info(info: Info) -> Validity
 }
 
 // What a writer refuses of these values and a buffer of so many bytes.
+#[tactic(auto, unfolding(crate::specs::Writing::channel_write_rule), using(fields::proofs::Laws::ok_then, fields::proofs::Laws::err_then))]
 pub fn validate(
     size: usize,
     name: &[u8],
     description: &[u8],
     common: Common,
     info: Info,
-) -> Validity
+) -> Result<(), Refusal>
     ensures { result ≡ channel_write_rule size name.now description.now common info }
 {
-    let short = unless(CHANNEL_SIZE <= size, SHORT_BUFFER, 0);
-    let head = validate_head(common);
-    let text = unless(given_ok(name), TEXT, 13);
-    let second = unless(given_ok(description), TEXT, 45);
-    let location = validate_location(common.location);
-    first(
-        short,
-        first(
-            head,
-            first(text, first(second, first(location, validate_info(info)))),
-        ),
-    )
+    unless(CHANNEL_SIZE <= size, Reason::ShortBuffer, 0)?;
+    validate_head(common)?;
+    unless(given_ok(name), Reason::Text, 13)?;
+    unless(given_ok(description), Reason::Text, 45)?;
+    validate_location(common.location)?;
+    validate_info(info)
 }
 
 fn mode_number(info: Info) -> u8
@@ -112,7 +112,7 @@ fn mode_number(info: Info) -> u8
 }
 
 fn put_head(dst: &mut [u8], mode: u8, c: Common)
-    requires { (length dst.old ≡ 90) × (head_write_rule c ≡ Validity.Valid) }
+    requires { (length dst.old ≡ 90) × (head_write_rule c ≡ Valid) }
     ensures { dst.new ≡ over dst.old 0 (head_bytes mode c) }
 {
     let t = c.traits;
@@ -138,7 +138,7 @@ fn put_location(dst: &mut [u8], l: Location)
 
 // The info goes into a record that is zero from there on, so that its pads come out zero.
 fn put_fm(dst: &mut [u8], i: FmInfo)
-    requires { (length dst.old ≡ 90) × ((drop 85 dst.old ≡ zeros 5) × (info_write_rule (Info.Fm i) ≡ Validity.Valid)) }
+    requires { (length dst.old ≡ 90) × ((drop 85 dst.old ≡ zeros 5) × (info_write_rule (Info.Fm i) ≡ Valid)) }
     ensures { dst.new ≡ take 85 dst.old ++ info_bytes (Info.Fm i) }
 {
     let receive = i.receive;
@@ -148,7 +148,7 @@ fn put_fm(dst: &mut [u8], i: FmInfo)
 }
 
 fn put_dmr(dst: &mut [u8], i: DmrInfo)
-    requires { (length dst.old ≡ 90) × ((drop 85 dst.old ≡ zeros 5) × (info_write_rule (Info.Dmr i) ≡ Validity.Valid)) }
+    requires { (length dst.old ≡ 90) × ((drop 85 dst.old ≡ zeros 5) × (info_write_rule (Info.Dmr i) ≡ Valid)) }
     ensures { dst.new ≡ take 85 dst.old ++ info_bytes (Info.Dmr i) }
 {
     let contact = i.contact;
@@ -158,7 +158,7 @@ fn put_dmr(dst: &mut [u8], i: DmrInfo)
 }
 
 fn put_m17(dst: &mut [u8], i: M17Info)
-    requires { (length dst.old ≡ 90) × ((drop 85 dst.old ≡ zeros 5) × (info_write_rule (Info.M17 i) ≡ Validity.Valid)) }
+    requires { (length dst.old ≡ 90) × ((drop 85 dst.old ≡ zeros 5) × (info_write_rule (Info.M17 i) ≡ Valid)) }
     ensures { dst.new ≡ take 85 dst.old ++ info_bytes (Info.M17 i) }
 {
     let h = Nibbles {
@@ -173,7 +173,7 @@ fn put_m17(dst: &mut [u8], i: M17Info)
 }
 
 fn put_info(dst: &mut [u8], info: Info)
-    requires { (length dst.old ≡ 90) × ((drop 85 dst.old ≡ zeros 5) × (info_write_rule info ≡ Validity.Valid)) }
+    requires { (length dst.old ≡ 90) × ((drop 85 dst.old ≡ zeros 5) × (info_write_rule info ≡ Valid)) }
     ensures { dst.new ≡ take 85 dst.old ++ info_bytes info }
 {
     match info {
@@ -185,7 +185,7 @@ fn put_info(dst: &mut [u8], info: Info)
 
 // The record, from 90 zeros.
 fn channel_bytes(name: &[u8], description: &[u8], common: Common, info: Info) -> [u8; CHANNEL_SIZE]
-    requires { channel_write_rule 90 name.now description.now common info ≡ Validity.Valid }
+    requires { channel_write_rule 90 name.now description.now common info ≡ Valid }
     ensures { result ≡ channel_bytes name.now description.now common info }
 {
     let mut r = [0u8; CHANNEL_SIZE];
@@ -198,23 +198,19 @@ fn channel_bytes(name: &[u8], description: &[u8], common: Common, info: Info) ->
 }
 
 // Writes a channel over the beginning of a buffer.
+#[tactic(auto, unfolding(crate::specs::Writing::channel_written), using(fields::proofs::Laws::written_ok, fields::proofs::Laws::written_err, crate::proofs::WriteLaws::rule_in_90, crate::proofs::WriteLaws::rule_fits))]
 pub fn write(
     out: &mut [u8],
     name: &[u8],
     description: &[u8],
     common: Common,
     info: Info,
-) -> Validity
+) -> Result<(), Refusal>
     ensures { (result ≡ channel_write_rule (length out.old) name.now description.now common info)
         × (out.new ≡ channel_written out.old name.now description.now common info) }
 {
-    let validity = validate(out.len(), name, description, common, info);
-    match validity {
-        Validity::Valid => {
-            let r = channel_bytes(name, description, common, info);
-            put(out, 0, &r);
-            Validity::Valid
-        }
-        Validity::Refused(n, p) => Validity::Refused(n, p),
-    }
+    validate(out.len(), name, description, common, info)?;
+    let r = channel_bytes(name, description, common, info);
+    put(out, 0, &r);
+    Ok(())
 }

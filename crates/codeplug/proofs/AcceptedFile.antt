@@ -1,6 +1,6 @@
 -- What a user may expect of an accepted file.
 use Prim.Native.Nat.{ℕ, ◌+◌, ◌*◌, ◌/◌, ◌≤◌, ◌<◌}
-use mathlib.Core.Path.{◌≡◌, refl}
+use mathlib.Core.Path.{◌≡◌, refl, ap, sym, ◌∙◌}
 use mathlib.Core.Bool.{Bool, true, false}
 use mathlib.Core.List.{List}
 use native.Mathlib.Omega.{arith}
@@ -8,40 +8,44 @@ use lib.ListN.{length, get_or, length-take}
 use lib.Dec.{ltb}
 use borrow.Author.Tests.{ltb-true}
 use Rattle.fields.specs.Bytes.{part, num}
-use Rattle.fields.specs.declared.rule.Validity.{Validity}
-use Rattle.fields.specs.declared.rule.Validity.TheVariants.{Valid, Refused}
 use Rattle.fields.proofs.Laws.{num-part}
 use Rattle.m17.specs.declared.Edition.{Edition}
-use Rattle.contact.specs.Contact.{contact_answer}
+use Rattle.contact.specs.Contact.{contact_of, contact_answer}
 use Rattle.channel.specs.Rule.{channel_rule, named_contact}
 use Rattle.channel_reader.specs.Reading.{dmr_of, m17_of, info_of, channel_of, channel_answer}
 use Rattle.channel.specs.Values.{mode_number}
-use Rattle.channel.specs.declared.ContactIndex.{ContactIndex}
-use Rattle.channel.specs.declared.ContactIndex.TheVariants.{Nobody}
+use Rattle.channel.specs.declared.Channel.{Channel}
 use Rattle.channel.specs.declared.Info.{Info}
 use Rattle.channel.specs.declared.Info.TheVariants.{Fm, Dmr, M17}
 use Rattle.channel.proofs.Laws.{by_mode, valid-named, valid-channel, valid-length, dmr-named, m17-named, fm-names-none}
-use Rattle.layout.specs.Places.{contact_count, channel_count, bank_count, channel_place}
+use Rattle.layout.specs.Places.{contact_count, channel_count, bank_count, contact_place, channel_place}
 use Rattle.layout.specs.Banks.{bank_place, entry_count}
 use Rattle.layout.proofs.Laws.{bank-valid, entry-valid}
 use Rattle.entries.specs.Entry.{entry_step}
-use Rattle.entries.specs.declared.EntryStep.TheVariants as step
 use Rattle.file_rule.specs.File.{names_contact, index_ok, file_rule}
-use Rattle.codeplug.specs.Read.{place_rule, contact_read, channel_read, bank_answer, bank_read, entries_answer, entries_read, entry_answer, entry_read}
+use Rattle.codeplug.specs.Read.{place_rule, contact_read, channel_read, bank_of, bank_answer, bank_read, entries_answer, entries_read, entry_answer, entry_read}
 use Rattle.file_rule.proofs.Laws.{file-valid, channel-there}
 use Rattle.codeplug.proofs.Laws.{place-valid, place-passes}
+use Rattle.std.specs.Prelude.{Ok, Err, Result, None, Option}
+use Rattle.format.specs.declared.refusals.Refusal.{Refusal}
+use Rattle.entries.specs.declared.EntryStep.{EntryStep}
+use Rattle.format.specs.declared.refusals.Reason.TheVariants as reason
+use Rattle.fields.specs.Rule.{Validity, Valid, Refused}
 
 -- ---- every record below its count is read
 
-pub contact-reads : (ed : Edition) (f : List ℕ) (n : ℕ) → file_rule ed f ≡ Valid → n < contact_count f → (contact_read ed f n).validity ≡ Valid
+pub contact-reads : (ed : Edition) (f : List ℕ) (n : ℕ) → file_rule ed f ≡ Valid → n < contact_count f
+    → contact_read ed f n ≡ Ok (contact_of (part f (contact_place n) 39))
 unfolding contact_read contact_answer
 contact-reads ed f n h g = rw (place-passes ed f n (contact_count f) h g)
 
-pub channel-reads : (ed : Edition) (f : List ℕ) (n : ℕ) → file_rule ed f ≡ Valid → n < channel_count f → (channel_read ed f n).validity ≡ Valid
+pub channel-reads : (ed : Edition) (f : List ℕ) (n : ℕ) → file_rule ed f ≡ Valid → n < channel_count f
+    → channel_read ed f n ≡ Ok (channel_of (part f (channel_place f n) 90))
 unfolding channel_read channel_answer
 channel-reads ed f n h g = rw (place-passes ed f n (channel_count f) h g)
 
-pub bank-reads : (ed : Edition) (f : List ℕ) (n : ℕ) → file_rule ed f ≡ Valid → n < bank_count f → (bank_read ed f n).validity ≡ Valid
+pub bank-reads : (ed : Edition) (f : List ℕ) (n : ℕ) → file_rule ed f ≡ Valid → n < bank_count f
+    → bank_read ed f n ≡ Ok (bank_of (part f (bank_place f n) 34))
 unfolding bank_read bank_answer
 bank-reads ed f n h g = rw (place-passes ed f n (bank_count f) h g)
 
@@ -49,43 +53,44 @@ bank-reads ed f n h g = rw (place-passes ed f n (bank_count f) h g)
 
 -- entry i of a bank at p with m entries, all valid
 entry_of : (f : List ℕ) (p m i c j : ℕ) → ((k : ℕ) → k < m → num f (p + k * 2) 2 < channel_count f)
-    → entry_step (part f p (m * 2)) i ≡ step.Entry c j → c < channel_count f
+    → entry_step (part f p (m * 2)) i ≡ Ok (record { channel = c; next = j }) → c < channel_count f
 unfolding entry_step
 entry_of f p m i c j all h = by (ltb i (length (part f p (m * 2)) / 2)) refl
   where
     by : (t : Bool) → ltb i (length (part f p (m * 2)) / 2) ≡ t → c < channel_count f
     by true e =
-        let a : step.Entry (num (part f p (m * 2)) (i * 2) 2) (i + 1) ≡ step.Entry c j = rw e at h in
+        let a : ◌≡◌ {A = Result EntryStep Refusal} (Ok (record { channel = num (part f p (m * 2)) (i * 2) 2; next = i + 1 })) (Ok (record { channel = c; next = j })) = rw e at h in
         let l : length (part f p (m * 2)) ≤ m * 2 = rw length-take (omega arith) in
         let b : i < m = omega (arith, ltb-true i (length (part f p (m * 2)) / 2) e) in
-        let d : num (part f p (m * 2)) (i * 2) 2 ≡ c = cc in
+        let same : ◌≡◌ {A = EntryStep} (record { channel = num (part f p (m * 2)) (i * 2) 2; next = i + 1 }) (record { channel = c; next = j }) = cc in
+        let d : num (part f p (m * 2)) (i * 2) 2 ≡ c = ap (λ (t : EntryStep). t.channel) same in
         omega (arith, num-part f p (m * 2) (i * 2) 2 (omega arith), all i b)
     by false e =
-        let a : step.Refused 33 0 ≡ step.Entry c j = rw e at h in
+        let a : ◌≡◌ {A = Result EntryStep Refusal} (Refused reason.NoPlace 0) (Ok (record { channel = c; next = j })) = rw e at h in
         let z : ◌≡◌ {A = ℕ} 0 1 = cc in
         absurd (omega arith)
 
-pub entry-names : (ed : Edition) (f : List ℕ) (n i c j : ℕ) → entry_read ed f n i ≡ step.Entry c j → c < channel_count f
+pub entry-names : (ed : Edition) (f : List ℕ) (n i c j : ℕ) → entry_read ed f n i ≡ Ok (record { channel = c; next = j }) → c < channel_count f
 unfolding entry_read entry_answer entries_read entries_answer
 entry-names ed f n i c j h = by (place_rule ed f n (bank_count f)) refl
   where
     by : (v : Validity) → place_rule ed f n (bank_count f) ≡ v → c < channel_count f
-    by Valid e =
+    by (Ok u) e =
         let g = place-valid ed f n (bank_count f) e in
         let b = (bank-valid f n (file-valid ed f g.file).banks g.below).1 in
-        let a : entry_step (part f (bank_place f n + 34) (entry_count f (bank_place f n) * 2)) i ≡ step.Entry c j = rw e at h in
+        let a : entry_step (part f (bank_place f n + 34) (entry_count f (bank_place f n) * 2)) i ≡ Ok (record { channel = c; next = j }) = rw e at h in
         entry_of f (bank_place f n + 34) (entry_count f (bank_place f n)) i c j
         (λ k l. entry-valid f (entry_count f (bank_place f n)) (bank_place f n + 34) k b l) a
-    by (Refused a b) e =
-        let d : step.Refused a b ≡ step.Entry c j = rw e at h in
+    by (Err e') e =
+        let d : ◌≡◌ {A = Result EntryStep Refusal} (Err e') (Ok (record { channel = c; next = j })) = rw e at h in
         let z : ◌≡◌ {A = ℕ} 0 1 = cc in
         absurd (omega arith)
 
 -- ---- a channel names nobody or a contact of its own mode
 
 -- the contact that a channel's info names; FM has none
-abbrev pub info_contact : Info → ContactIndex
-info_contact (Fm i) = Nobody
+abbrev pub info_contact : Info → Option ℕ
+info_contact (Fm i) = None
 info_contact (Dmr i) = i.contact
 info_contact (M17 i) = i.contact
 
@@ -118,12 +123,14 @@ named f s p h =
     (λ e. valid-named s p (names_contact f (get_or s 0 0) (named_contact s)) h (omega arith))
     (λ l. valid-named s p (names_contact f (get_or s 0 0) (named_contact s)) h (omega arith))
 
-pub channel-names : (ed : Edition) (f : List ℕ) (n : ℕ) → file_rule ed f ≡ Valid → n < channel_count f
-    → names_contact f (mode_number (channel_read ed f n).channel.info) (info_contact (channel_read ed f n).channel.info) ≡ true
-unfolding channel_read channel_answer channel_of
-channel-names ed f n h g =
+pub channel-names : (ed : Edition) (f : List ℕ) (n : ℕ) (c : Channel) → file_rule ed f ≡ Valid → n < channel_count f → channel_read ed f n ≡ Ok c
+    → names_contact f (mode_number c.info) (info_contact c.info) ≡ true
+unfolding channel_of
+channel-names ed f n c h g r =
     let t = channel-there f n (file-valid ed f h).channels g in
     let s = part f (channel_place f n) 90 in
     let m = (valid-channel s (channel_place f n) (index_ok f s) t).mode in
     let l = valid-length s (channel_place f n) (index_ok f s) t in
-    rw (place-passes ed f n (channel_count f) h g, mode_of s m, contact-of s m l) (named f s (channel_place f n) t)
+    let e : ◌≡◌ {A = Result Channel Refusal} (Ok (channel_of s)) (Ok c) = sym (channel-reads ed f n h g) ∙ r in
+    let is : channel_of s ≡ c = cc in
+    rw (← is, mode_of s m, contact-of s m l) (named f s (channel_place f n) t)

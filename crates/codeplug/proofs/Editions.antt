@@ -4,8 +4,6 @@ use mathlib.Core.Path.{◌≡◌, sym, ◌∙◌}
 use mathlib.Core.Logic.{⊎_elim}
 use mathlib.Core.List.{List}
 use native.Mathlib.Omega.{arith}
-use Rattle.fields.specs.declared.rule.Validity.{Validity}
-use Rattle.fields.specs.declared.rule.Validity.TheVariants.{Valid, Refused}
 use Rattle.m17.specs.declared.Edition.TheVariants.{Older, Newer}
 use Rattle.file_rule.specs.File.{file_rule}
 use Rattle.file_rule.proofs.EditionLaws.{file-either, file-older, older-plain}
@@ -13,6 +11,9 @@ use Rattle.validation.specs.Validation.{validation}
 use Rattle.codeplug.specs.Read.{header_read, place_rule, contact_read, channel_read, bank_read, entries_read, entry_read}
 use Rattle.codeplug.specs.Editions.{ReadsAlike, OlderInNewer, AlikeUnlessEight, NewerInOlder}
 use Rattle.codeplug.proofs.Prevalidated.{contact-prevalidated}
+use Rattle.fields.specs.Rule.{Validity, Valid, Refused}
+use Rattle.format.specs.declared.refusals.Reason.{Reason}
+use Rattle.format.specs.declared.refusals.Reason.TheVariants as reason
 
 -- the readers know the edition by the file's validity alone
 reads-alike : (f : List ℕ) → file_rule Newer f ≡ file_rule Older f → ReadsAlike f
@@ -33,12 +34,12 @@ alike-unless-eight f other =
     let e : file_rule Newer f ≡ file_rule Older f = ⊎_elim (λ g. sym g) (λ g. absurd (other g.0 g.1)) (file-either f) in
     (e, reads-alike f e)
 
-valid-not-refused : (v : Validity) (n p : ℕ) → v ≡ Valid → v ≡ Refused n p → ⊥
+valid-not-refused : (v : Validity) (n : Reason) (p : ℕ) → v ≡ Valid → v ≡ Refused n p → ⊥
 valid-not-refused v n p g h = let z : ◌≡◌ {A = ℕ} 0 1 = cc in omega arith
 
 pub older-in-newer : OlderInNewer
 older-in-newer f valid =
-    let a = alike-unless-eight f (λ p. valid-not-refused (file_rule Older f) 8 p valid) in
+    let a = alike-unless-eight f (λ p. valid-not-refused (file_rule Older f) reason.Address p valid) in
     let newer : file_rule Newer f ≡ Valid = a.0 ∙ valid in
     (newer, (a.1, λ n. contact-prevalidated Newer f n newer ∙ a.1.contact n ∙ sym (contact-prevalidated Older f n valid)))
 

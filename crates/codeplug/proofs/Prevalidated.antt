@@ -6,9 +6,7 @@ use mathlib.Core.List.{List}
 use lib.Dec.{ltb}
 use borrow.Author.Tests.{ltb-true}
 use Rattle.fields.specs.Bytes.{part}
-use Rattle.fields.specs.Rule.{◌then◌, unless}
-use Rattle.fields.specs.declared.rule.Validity.{Validity}
-use Rattle.fields.specs.declared.rule.Validity.TheVariants.{Valid}
+use Rattle.fields.specs.Rule.{◌then◌, unless, Validity, Valid}
 use Rattle.fields.proofs.Laws.{valid-then, both-valid}
 use Rattle.m17.specs.declared.Edition.{Edition}
 use Rattle.layout.specs.Places.{contact_count, channel_count, bank_count, contact_place, channel_place, offset_place}
@@ -19,14 +17,15 @@ use Rattle.codeplug.specs.Read.{place_rule, contact_read, channel_read, bank_rea
 use Rattle.codeplug.specs.Prevalidated.{contact_prevalidated, channel_prevalidated, table_place, bank_prevalidated_rule, bank_prevalidated, entries_prevalidated}
 use Rattle.file_rule.proofs.Laws.{file-valid, contact-there, channel-there}
 use Rattle.codeplug.proofs.Laws.{table-leads, placed-leads, bank-same, entries-same}
+use Rattle.format.specs.declared.refusals.Reason.TheVariants as reason
 
--- 33, then the record's own validity, which is valid: as after validating the whole file
+-- the place, then the record's own validity, which is valid: as after validating the whole file
 prevalidated-validity : (ed : Edition) (f : List ℕ) (n count : ℕ) (v : Validity) → file_rule ed f ≡ Valid → (n < count → v ≡ Valid)
-    → unless (ltb n count) 33 0 then v ≡ place_rule ed f n count
+    → unless (ltb n count) reason.NoPlace 0 then v ≡ place_rule ed f n count
 unfolding place_rule unless ◌then◌
-prevalidated-validity ed f n count v h g = by (ltb n count) refl ∙ sym (valid-then (file_rule ed f) (unless (ltb n count) 33 0) h)
+prevalidated-validity ed f n count v h g = by (ltb n count) refl ∙ sym (valid-then (file_rule ed f) (unless (ltb n count) reason.NoPlace 0) h)
   where
-    by : (t : Bool) → ltb n count ≡ t → unless (ltb n count) 33 0 then v ≡ unless (ltb n count) 33 0
+    by : (t : Bool) → ltb n count ≡ t → unless (ltb n count) reason.NoPlace 0 then v ≡ unless (ltb n count) reason.NoPlace 0
     by true e = rw e (g (ltb-true n count e))
     by false e = rw e
 

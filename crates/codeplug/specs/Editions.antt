@@ -1,7 +1,6 @@
 -- What is promised of a file read by the two editions of addresses (document 02, [10]), as types; proofs/Editions.antt proves them.
 use Rattle.std.specs.Prelude.{ℕ, ◌<◌, ◌≡◌, true, List, get_or}
 use Rattle.fields.specs.Bytes.{part, big}
-use Rattle.fields.specs.declared.rule.Validity.TheVariants.{Valid, Refused}
 use Rattle.m17.specs.declared.Edition.TheVariants.{Older, Newer}
 use Rattle.m17.specs.Address.{address_ok}
 use Rattle.layout.specs.Places.{contact_count, contact_place}
@@ -9,6 +8,8 @@ use Rattle.file_rule.specs.File.{file_rule}
 use Rattle.validation.specs.Validation.{validation}
 use Rattle.codeplug.specs.Read.{header_read, contact_read, channel_read, bank_read, entries_read, entry_read}
 use Rattle.codeplug.specs.Prevalidated.{contact_prevalidated}
+use Rattle.format.specs.declared.refusals.Reason.TheVariants as reason
+use Rattle.fields.specs.Rule.{Valid, Refused}
 
 -- every reader that validates the file answers by the newer what it answers by the older
 pub record ReadsAlike (f : List ℕ) : Type 0 where
@@ -28,9 +29,9 @@ OlderInNewer =
 
 -- ---- no paper asks for these two; the words of the header rest on them
 
--- the editions answer a file otherwise only where the older refuses it by 8: any other is answered alike, its refusal too
+-- the editions answer a file otherwise only where the older refuses it for an address: any other is answered alike, its refusal too
 abbrev pub AlikeUnlessEight : Type 0
-AlikeUnlessEight = (f : List ℕ) → ((p : ℕ) → file_rule Older f ≡ Refused 8 p → ⊥) → (file_rule Newer f ≡ file_rule Older f) × ReadsAlike f
+AlikeUnlessEight = (f : List ℕ) → ((p : ℕ) → file_rule Older f ≡ Refused reason.Address p → ⊥) → (file_rule Newer f ≡ file_rule Older f) × ReadsAlike f
 
 -- no M17 contact holds an address that the older has not
 abbrev pub NoHashAddress : List ℕ → Type 0

@@ -5,7 +5,6 @@ pub mod bank_entries; // bank_entries.rt: the entries of bank n
 pub mod bytes; // bytes.rt: the bytes of record n
 pub mod read; // read.rt: the header, contact n, channel n and bank n of a file
 
-use fields::rule::Validity;
 use layout::Counts;
 
 // The texts stand as in the file: a text, then zeros.
@@ -17,23 +16,9 @@ pub struct Header {
     pub counts: Counts,
 }
 
-// A reader's answer. Beside a refusal stands a blank header.
-#[derive(Clone, Copy)]
-pub struct HeaderRead {
-    pub validity: Validity,
-    pub header: Header,
-}
-
 // A bank's name and how many entries it has.
 #[derive(Clone, Copy)]
 pub struct Bank {
     pub name: [u8; 32],
     pub entries: u16,
-}
-
-// A reader's answer. Beside a refusal stands a blank bank.
-#[derive(Clone, Copy)]
-pub struct BankRead {
-    pub validity: Validity,
-    pub bank: Bank,
 }

@@ -1,21 +1,26 @@
-// The header, contact n, channel n and bank n of a file: the file's refusal, then 33.
+// The header, contact n, channel n and bank n of a file: the file's refusal, then that there is no such place.
 ghost use Rattle.std.specs.Prelude.{◌≡◌, ◌≤◌, ◌<◌, length};
 ghost use Rattle.file_rule.specs.File.{file_rule};
-ghost use Rattle.codeplug.specs.Read.{header_of, blank_header, header_answer, header_read, place_rule, contact_read, channel_read, bank_of, blank_bank, bank_answer, bank_read};
+ghost use Rattle.codeplug.specs.Read.{header_of, header_answer, header_read, place_rule, contact_read, channel_read, bank_of, bank_answer, bank_read};
 ghost use Rattle.codeplug.specs.There.{ContactThere, ChannelThere, BankLed};
 ghost use Rattle.layout.specs.Places.{contact_count, channel_count, bank_count};
+ghost use Rattle.fields.specs.Rule.{Valid};
 
-use crate::bytes::{bank_bytes, channel_bytes, contact_bytes};
-use crate::{Bank, BankRead, Header, HeaderRead};
-use channel_reader::ChannelRead;
-use contact::ContactRead;
+use crate::{Bank, Header};
+use channel::Channel;
+use channel_reader::channel_of;
+use contact::Contact;
+use contact_reader::contact_of;
 use fields::numbers::{le16, le64};
 use fields::put::bytes32;
-use fields::rule::{Validity, first, unless};
-use format::refusals::NO_PLACE;
-use format::sizes::ENTRY_COUNT_AT;
+use fields::rule::unless;
+use format::refusals::{Reason, Refusal};
+use format::sizes::{BANK_HEAD_SIZE, CHANNEL_SIZE, CONTACT_SIZE, ENTRY_COUNT_AT};
 use layout::Counts;
-use layout::places::{bank_count, channel_count, contact_count, counts_of};
+use layout::places::{
+    bank_count, channel_count, channel_place, contact_count, contact_place, counts_of,
+    offset_place, offset_target, record_bytes,
+};
 use m17::Edition;
 use validation::validity_of;
 
@@ -39,81 +44,70 @@ pub const NO_COUNTS: Counts = Counts {
     banks: 0,
 };
 
-fn blank_header() -> Header
-    ensures { result ≡ blank_header }
-{
-    Header {
-        author: [0u8; 32],
-        description: [0u8; 32],
-        timestamp: 0,
-        counts: NO_COUNTS,
-    }
-}
-
-// The answer for a validity on a file; `Valid` comes only with the header's 88 bytes.
-pub fn header_answer(validity: Validity, f: &[u8]) -> HeaderRead
-    requires { validity ≡ Validity.Valid → 88 ≤ length f.now }
+// The header of a valid file; `Ok` comes only with the header's 88 bytes.
+#[tactic(auto, unfolding(crate::specs::Read::header_answer))]
+pub fn header_answer(validity: Result<(), Refusal>, f: &[u8]) -> Result<Header, Refusal>
+    requires { validity ≡ Valid → 88 ≤ length f.now }
     ensures { result ≡ header_answer validity f.now }
 {
-    match validity {
-        Validity::Valid => HeaderRead {
-            validity: Validity::Valid,
-            header: header_of(f),
-        },
-        Validity::Refused(n, p) => HeaderRead {
-            validity: Validity::Refused(n, p),
-            header: blank_header(),
-        },
-    }
+    validity?;
+    Ok(header_of(f))
 }
 
 // The file's validity, which is the header's.
-pub fn header_validity(f: &[u8], edition: Edition) -> Validity
-    ensures { (result ≡ file_rule edition f.now) × (result ≡ Validity.Valid → 88 ≤ length f.now) }
+pub fn header_validity(f: &[u8], edition: Edition) -> Result<(), Refusal>
+    ensures { (result ≡ file_rule edition f.now) × (result ≡ Valid → 88 ≤ length f.now) }
 {
     validity_of(f, edition)
 }
 
-pub fn header(f: &[u8], edition: Edition) -> HeaderRead
+#[tactic(auto, unfolding(crate::specs::Read::header_read, crate::specs::Read::header_answer))]
+pub fn header(f: &[u8], edition: Edition) -> Result<Header, Refusal>
     ensures { result ≡ header_read edition f.now }
 {
-    header_answer(header_validity(f, edition), f)
+    header_validity(f, edition)?;
+    Ok(header_of(f))
 }
 
-// The file's refusal, then 33 unless n is below the count.
-pub(crate) fn place(f: &[u8], n: usize, count: usize, edition: Edition) -> Validity
+// The file's refusal, then that there is no such place unless n is below the count.
+#[tactic(auto, unfolding(crate::specs::Read::place_rule), using(fields::proofs::Laws::ok_then, fields::proofs::Laws::err_then))]
+fn place(f: &[u8], n: usize, count: usize, edition: Edition) -> Result<(), Refusal>
     ensures { result ≡ place_rule edition f.now n count }
 {
-    first(validity_of(f, edition), unless(n < count, NO_PLACE, 0))
+    validity_of(f, edition)?;
+    unless(n < count, Reason::NoPlace, 0)
 }
 
-pub fn contact_validity(f: &[u8], n: usize, edition: Edition) -> Validity
-    ensures { (result ≡ place_rule edition f.now n (contact_count f.now)) × (result ≡ Validity.Valid → ContactThere f.now n) }
+pub fn contact_validity(f: &[u8], n: usize, edition: Edition) -> Result<(), Refusal>
+    ensures { (result ≡ place_rule edition f.now n (contact_count f.now)) × (result ≡ Valid → ContactThere f.now n) }
 {
     place(f, n, contact_count(f), edition)
 }
 
-pub fn contact(f: &[u8], n: usize, edition: Edition) -> ContactRead
+#[tactic(auto, unfolding(crate::specs::Read::contact_read, contact::specs::Contact::contact_answer))]
+pub fn contact(f: &[u8], n: usize, edition: Edition) -> Result<Contact, Refusal>
     ensures { result ≡ contact_read edition f.now n }
 {
-    let validity = contact_validity(f, n, edition);
-    contact_reader::answer(validity, contact_bytes(f, n, validity))
+    contact_validity(f, n, edition)?;
+    Ok(contact_of(record_bytes(f, contact_place(n), CONTACT_SIZE)))
 }
 
-pub fn channel_validity(f: &[u8], n: usize, edition: Edition) -> Validity
-    ensures { (result ≡ place_rule edition f.now n (channel_count f.now)) × (result ≡ Validity.Valid → ChannelThere f.now n) }
+pub fn channel_validity(f: &[u8], n: usize, edition: Edition) -> Result<(), Refusal>
+    ensures { (result ≡ place_rule edition f.now n (channel_count f.now)) × (result ≡ Valid → ChannelThere f.now n) }
 {
     place(f, n, channel_count(f), edition)
 }
 
-pub fn channel(f: &[u8], n: usize, edition: Edition) -> ChannelRead
+#[tactic(auto, unfolding(crate::specs::Read::channel_read, channel_reader::specs::Reading::channel_answer))]
+pub fn channel(f: &[u8], n: usize, edition: Edition) -> Result<Channel, Refusal>
     ensures { result ≡ channel_read edition f.now n }
 {
-    let validity = channel_validity(f, n, edition);
-    channel_reader::answer(validity, channel_bytes(f, n, validity))
+    channel_validity(f, n, edition)?;
+    Ok(channel_of(record_bytes(f, channel_place(f, n), CHANNEL_SIZE)))
 }
 
-fn bank_of(s: &[u8]) -> Bank
+// The value of a valid bank.
+pub fn bank_of(s: &[u8]) -> Bank
     requires { 34 ≤ length s.now }
     ensures { result ≡ bank_of s.now }
 {
@@ -123,42 +117,28 @@ fn bank_of(s: &[u8]) -> Bank
     }
 }
 
-fn blank_bank() -> Bank
-    ensures { result ≡ blank_bank }
-{
-    Bank {
-        name: [0u8; 32],
-        entries: 0,
-    }
-}
-
-// The answer for a validity on a bank's bytes; `Valid` comes only with the first 34 of them.
-pub fn bank_answer(validity: Validity, s: &[u8]) -> BankRead
-    requires { validity ≡ Validity.Valid → 34 ≤ length s.now }
+// The bank in a valid bank's bytes; `Ok` comes only with the first 34 of them.
+#[tactic(auto, unfolding(crate::specs::Read::bank_answer))]
+pub fn bank_answer(validity: Result<(), Refusal>, s: &[u8]) -> Result<Bank, Refusal>
+    requires { validity ≡ Valid → 34 ≤ length s.now }
     ensures { result ≡ bank_answer validity s.now }
 {
-    match validity {
-        Validity::Valid => BankRead {
-            validity: Validity::Valid,
-            bank: bank_of(s),
-        },
-        Validity::Refused(n, p) => BankRead {
-            validity: Validity::Refused(n, p),
-            bank: blank_bank(),
-        },
-    }
+    validity?;
+    Ok(bank_of(s))
 }
 
-pub fn bank_validity(f: &[u8], n: usize, edition: Edition) -> Validity
-    ensures { (result ≡ place_rule edition f.now n (bank_count f.now)) × (result ≡ Validity.Valid → BankLed f.now n) }
+pub fn bank_validity(f: &[u8], n: usize, edition: Edition) -> Result<(), Refusal>
+    ensures { (result ≡ place_rule edition f.now n (bank_count f.now)) × (result ≡ Valid → BankLed f.now n) }
 {
     place(f, n, bank_count(f), edition)
 }
 
 // The name and entry count of bank n. Of an accepted file the offset table leads to each bank.
-pub fn bank(f: &[u8], n: usize, edition: Edition) -> BankRead
+#[tactic(auto, unfolding(crate::specs::Read::bank_read, crate::specs::Read::bank_answer, crate::specs::Prevalidated::table_place))]
+pub fn bank(f: &[u8], n: usize, edition: Edition) -> Result<Bank, Refusal>
     ensures { result ≡ bank_read edition f.now n }
 {
-    let validity = bank_validity(f, n, edition);
-    bank_answer(validity, bank_bytes(f, n, validity))
+    bank_validity(f, n, edition)?;
+    let p = offset_target(f, offset_place(f, n));
+    Ok(bank_of(record_bytes(f, p, BANK_HEAD_SIZE)))
 }

@@ -13,8 +13,7 @@ use lib.ListN.{length, get_or, take, drop, drop_of_length-le, length-append, len
 use lib.Seq.{get_or-take, drop-drop, drop_at, take_at}
 use Rattle.fields.specs.Bytes.{part, big, zeros, over, little_bytes, big_bytes}
 use Rattle.text.specs.Text.{text_ok, given_ok, padded}
-use Rattle.fields.specs.Rule.{field_of}
-use Rattle.fields.specs.declared.rule.Validity.TheVariants.{Valid}
+use Rattle.fields.specs.Rule.{field_of, Valid}
 use Rattle.fields.proofs.Laws.{then-valid, both-valid, unless-valid, unless-passes, field-valid, field-passes}
 use Rattle.fields.proofs.Laws.{part-part, over_zero, drop-zeros, zeros-append, length-zeros, over-then}
 use Rattle.fields.proofs.Laws.{Long, long-byte, long-append, long-little, long-big}
@@ -29,6 +28,8 @@ use Rattle.contact.specs.declared.DmrContact.{DmrContact}
 use Rattle.contact.specs.Contact.{mode_ok, dmr_rule, m17_rule, contact_rule}
 use Rattle.contact.specs.Contact.{info_of, contact_of}
 use Rattle.contact.specs.Contact.{info_bytes, contact_bytes, settings_number_flag, info_write_rule, contact_write_rule}
+use Rattle.format.specs.declared.refusals.Reason.TheVariants as reason
+use Rattle.format.specs.declared.refusals.Reason.{Reason}
 
 -- ---- what a rule that gives `Valid` says
 
@@ -107,11 +108,21 @@ given-valid ed room name info h =
     let b = then-valid _ _ a.1 in
     (leb-true 39 room (unless-valid _ _ _ a.0), unless-valid _ _ _ b.0, b.1)
 
+-- the same one by one, for the code
+pub given_room : (ed : Edition) (room : ℕ) (name : List ℕ) (info : ContactInfo) → contact_write_rule ed room name info ≡ Valid → 39 ≤ room
+given_room ed room name info h = (given-valid ed room name info h).0
+
+pub given_name : (ed : Edition) (room : ℕ) (name : List ℕ) (info : ContactInfo) → contact_write_rule ed room name info ≡ Valid → given_ok name ≡ true
+given_name ed room name info h = (given-valid ed room name info h).1
+
+pub given_info : (ed : Edition) (room : ℕ) (name : List ℕ) (info : ContactInfo) → contact_write_rule ed room name info ≡ Valid → info_write_rule ed info ≡ Valid
+given_info ed room name info h = (given-valid ed room name info h).2
+
 pub rule-passes : (ed : Edition) (room : ℕ) (name : List ℕ) (info : ContactInfo) → 39 ≤ room → given_ok name ≡ true → info_write_rule ed info ≡ Valid
     → contact_write_rule ed room name info ≡ Valid
 unfolding contact_write_rule
 rule-passes ed room name info r n i =
-    both-valid _ _ (unless-passes _ 25 0 (le-leb 39 room r)) (both-valid _ _ (unless-passes _ 5 0 n) i)
+    both-valid _ _ (unless-passes _ reason.ShortBuffer 0 (le-leb 39 room r)) (both-valid _ _ (unless-passes _ reason.Text 0 n) i)
 
 pub m17-writable : (ed : Edition) (a : Address) → info_write_rule ed (M17 a) ≡ Valid → address_valid ed a ≡ true
 unfolding info_write_rule
@@ -187,6 +198,9 @@ pub length-contact_bytes : (name : List ℕ) (info : ContactInfo) → length nam
 unfolding contact_bytes
 length-contact_bytes name info h = rw (length-append, length-padded name h, length-info_bytes info)
 
+pub record_fits : (name : List ℕ) (info : ContactInfo) → given_ok name ≡ true → length (contact_bytes name info) ≡ 39
+record_fits name info h = length-contact_bytes name info (given_ok-length name h)
+
 -- ---- only the record's own bytes count
 
 leb-take : (s : List ℕ) (m w : ℕ) → m ≤ w → leb m (length (take w s)) ≡ leb m (length s)
@@ -196,7 +210,7 @@ leb-take s m w h = by (leb m (length s)) refl
     by true e = let f : m ≤ length s = leb-true m (length s) e in le-leb m (length (take w s)) (simp length-take (omega arith))
     by false e = let f : length s < m = leb-false m (length s) e in lt-leb m (length (take w s)) (simp length-take (omega arith))
 
-pub field-take : (s : List ℕ) (w base k n number : ℕ) (ok : Bool) → k + n ≤ w
+pub field-take : (s : List ℕ) (w base k n : ℕ) (number : Reason) (ok : Bool) → k + n ≤ w
     → field_of (length (take w s)) base k n number ok ≡ field_of (length s) base k n number ok
 unfolding field_of
 field-take s w base k n number ok h = rw (leb-take s (k + n) w h)
@@ -212,23 +226,23 @@ module _ (s : List ℕ) (base : ℕ) where
   unfolding dmr_rule
   dmr-take =
       rw (
-        field-take s 39 base 33 4 7 true (omega arith),
-        field-take s 39 base 37 1 7 _ (omega arith),
-        field-take s 39 base 38 1 7 _ (omega arith),
+        field-take s 39 base 33 4 reason.Value true (omega arith),
+        field-take s 39 base 37 1 reason.Value _ (omega arith),
+        field-take s 39 base 38 1 reason.Value _ (omega arith),
         get_or-record s 37 (omega arith),
         get_or-record s 38 (omega arith),
       )
 
   m17-take : (ed : Edition) → m17_rule ed (take 39 s) base ≡ m17_rule ed s base
   unfolding m17_rule
-  m17-take ed = rw (field-take s 39 base 33 6 8 _ (omega arith), part-record s 33 6 (omega arith))
+  m17-take ed = rw (field-take s 39 base 33 6 reason.Address _ (omega arith), part-record s 33 6 (omega arith))
 
   pub rule-take : (ed : Edition) → contact_rule ed (take 39 s) base ≡ contact_rule ed s base
   unfolding contact_rule
   rule-take ed =
       rw (
-        field-take s 39 base 0 32 5 _ (omega arith),
-        field-take s 39 base 32 1 6 _ (omega arith),
+        field-take s 39 base 0 32 reason.Text _ (omega arith),
+        field-take s 39 base 32 1 reason.Mode _ (omega arith),
         part-record s 0 32 (omega arith),
         get_or-record s 32 (omega arith),
         dmr-take,

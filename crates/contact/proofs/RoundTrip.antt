@@ -11,7 +11,6 @@ use lib.Dec.{eqb}
 use lib.ListN.{length, get_or, take}
 use Rattle.fields.specs.Bytes.{part, num, big, zeros, little_bytes, big_bytes}
 use Rattle.text.specs.Text.{text_ok, text_of, given_ok, padded}
-use Rattle.fields.specs.declared.rule.Validity.TheVariants.{Valid}
 use Rattle.fields.proofs.Laws.{AllBytes, bytes-cons, bytes-nil, bytes-append, bytes-zeros, bytes-part, bytes-little_bytes, bytes-big_bytes}
 use Rattle.fields.proofs.Laws.{Long, part-front, part-skip, get_or-skip, num-skip, part-all, part-add, part-cons, length_part}
 use Rattle.fields.proofs.Laws.{long-little, num-front, num-lt, length-big_bytes, big-big_bytes, little_bytes-num, big_bytes-big, unless-passes}
@@ -31,11 +30,17 @@ use Rattle.contact.specs.Contact.{contact_rule, info_of, contact_of, settings_of
 use Rattle.contact.specs.Contact.{info_write_rule, contact_write_rule, info_bytes, contact_bytes}
 use Rattle.contact.proofs.Laws.{ValidDmr, ValidM17, contact-valid, dmr-passes, m17-passes}
 use Rattle.contact.proofs.Laws.{given-valid, rule-passes, m17-writable, dmr-writable, length-contact_bytes}
+use Rattle.format.specs.declared.refusals.Reason.TheVariants as reason
+use Rattle.fields.specs.Rule.{Valid}
 
 -- ---- a valid record has all its bytes
 
 pub valid-length : (ed : Edition) (s : List ℕ) (base : ℕ) → contact_rule ed s base ≡ Valid → 39 ≤ length s
 valid-length ed s base h = ⊎_elim (λ d. d.whole) (λ m. m.whole) (contact-valid ed s base h).1
+
+-- the same, by a name that code can cite
+pub valid_length : (ed : Edition) (s : List ℕ) (base : ℕ) → contact_rule ed s base ≡ Valid → 39 ≤ length s
+valid_length ed s base h = valid-length ed s base h
 
 -- ---- write, then read
 
@@ -191,11 +196,11 @@ m17-bytes ed s b g = rw (g.mode, address_number-for (big (part s 33 6)), address
 dmr-info-given : (ed : Edition) (s : List ℕ) → ValidDmr s → info_write_rule ed (info_of s) ≡ Valid
 unfolding info_write_rule info_of
 dmr-info-given ed s g =
-    rw (g.mode, number-flag-settings (get_or s 37 0)) (unless-passes _ 7 37 (number_flag_valid-of (get_or s 37 0) g.settings))
+    rw (g.mode, number-flag-settings (get_or s 37 0)) (unless-passes _ reason.Value 37 (number_flag_valid-of (get_or s 37 0) g.settings))
 
 m17-info-given : (ed : Edition) (s : List ℕ) → ValidM17 ed s → info_write_rule ed (info_of s) ≡ Valid
 unfolding info_write_rule info_of
-m17-info-given ed s g = rw g.mode (unless-passes _ 8 33 (address_valid-for ed (big (part s 33 6)) g.address))
+m17-info-given ed s g = rw g.mode (unless-passes _ reason.Address 33 (address_valid-for ed (big (part s 33 6)) g.address))
 
 -- a valid record's values are accepted, and written they are the record again
 pub read-then-write : (ed : Edition) (s : List ℕ) (base : ℕ) → AllBytes s → contact_rule ed s base ≡ Valid

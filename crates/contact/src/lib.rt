@@ -3,9 +3,9 @@
 
 pub mod settings_byte; // settings_byte.rt: the settings byte of a DMR contact
 
-use fields::rule::Validity;
 use m17::Address;
 
+// The modes, and below the contact types, are numbers and no enum: a record may hold any byte there, and the writer takes any type and refuses it (`contact_writer::write`).
 pub const DMR: u8 = 1;
 
 pub const M17: u8 = 2;
@@ -40,11 +40,4 @@ pub enum ContactInfo {
 pub struct Contact {
     pub name: [u8; 32],
     pub info: ContactInfo,
-}
-
-// A reader's answer. Beside a refusal stands a blank contact.
-#[derive(Clone, Copy)]
-pub struct ContactRead {
-    pub validity: Validity,
-    pub contact: Contact,
 }

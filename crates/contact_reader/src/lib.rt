@@ -3,13 +3,14 @@
 
 ghost use Rattle.std.specs.Prelude.{◌≡◌, ◌≤◌, length};
 ghost use Rattle.contact.specs.Contact.{info_of, contact_of, blank_contact, contact_answer, contact_rule};
+ghost use Rattle.fields.specs.Rule.{Valid};
 
 use contact::settings_byte::settings_of;
-use contact::{Contact, ContactInfo, ContactRead, DmrContact, Settings};
+use contact::{Contact, ContactInfo, DmrContact, Settings};
 use contact_validation::validate;
 use fields::numbers::{be48, byte_at, le32};
 use fields::put::bytes32;
-use fields::rule::Validity;
+use format::refusals::Refusal;
 use m17::Edition;
 
 // What a valid record's bytes say but for its name.
@@ -27,7 +28,8 @@ fn info_of(s: &[u8]) -> ContactInfo
     }
 }
 
-fn contact_of(s: &[u8]) -> Contact
+// The value of a valid record.
+pub fn contact_of(s: &[u8]) -> Contact
     requires { 39 ≤ length s.now }
     ensures { result ≡ contact_of s.now }
 {
@@ -37,6 +39,7 @@ fn contact_of(s: &[u8]) -> Contact
     }
 }
 
+// What the C interface has beside a refusal.
 pub fn blank() -> Contact
     ensures { result ≡ blank_contact }
 {
@@ -52,26 +55,21 @@ pub fn blank() -> Contact
     }
 }
 
-// The answer for a validity on a record's bytes; `Valid` comes only with all 39 of them.
-pub fn answer(validity: Validity, s: &[u8]) -> ContactRead
-    requires { validity ≡ Validity.Valid → 39 ≤ length s.now }
+// The contact in a valid record's bytes; `Ok` comes only with all 39 of them.
+#[tactic(auto, unfolding(contact::specs::Contact::contact_answer))]
+pub fn answer(validity: Result<(), Refusal>, s: &[u8]) -> Result<Contact, Refusal>
+    requires { validity ≡ Valid → 39 ≤ length s.now }
     ensures { result ≡ contact_answer validity s.now }
 {
-    match validity {
-        Validity::Valid => ContactRead {
-            validity: Validity::Valid,
-            contact: contact_of(s),
-        },
-        Validity::Refused(n, p) => ContactRead {
-            validity: Validity::Refused(n, p),
-            contact: blank(),
-        },
-    }
+    validity?;
+    Ok(contact_of(s))
 }
 
 // A contact from its record's bytes; what stands past 39 is not looked at.
-pub fn read(s: &[u8], edition: Edition) -> ContactRead
+#[tactic(auto, unfolding(contact::specs::Contact::contact_answer), using(contact::proofs::RoundTrip::valid_length))]
+pub fn read(s: &[u8], edition: Edition) -> Result<Contact, Refusal>
     ensures { result ≡ contact_answer (contact_rule edition s.now 0) s.now }
 {
-    answer(validate(s, 0, edition), s)
+    validate(s, 0, edition)?;
+    Ok(contact_of(s))
 }

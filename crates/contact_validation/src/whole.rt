@@ -38,6 +38,7 @@ pub fn is_valid_by(s: &[u8], settings: bool, edition: Edition) -> bool
     text_ok(&s[0..32]) & (kind & info)
 }
 
+#[tactic(auto, unfolding(contact::specs::Contact::contact_rule, contact::specs::Contact::dmr_rule))]
 pub fn is_valid(s: &[u8], edition: Edition) -> bool
     requires { length s.now ≡ 39 }
     ensures { (base : ℕ) → result ≡ is_valid (contact_rule edition s.now base) }

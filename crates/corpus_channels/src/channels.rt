@@ -1,11 +1,10 @@
 // Channels read, as their lines have them.
 use crate::print::{NONE, form};
 use bits::signed_byte;
-use channel::{Channel, Common, ContactIndex, DmrInfo, FmInfo, Info, Location, M17Info};
-use fields::rule::Validity;
-use program_io::print::{refused, text, word};
+use channel::{Channel, Common, DmrInfo, FmInfo, Info, Location, M17Info};
+use program_io::print::{text, word};
 use std::io::{Result, Write};
-use tones::{Frequency, Tone};
+use tones::Tone;
 
 fn mode<W: Write>(out: &mut W, i: Info) -> Result<()> {
     match i {
@@ -49,10 +48,7 @@ fn location<W: Write>(out: &mut W, l: Location) -> Result<()> {
 }
 
 fn frequency(index: u8) -> u64 {
-    match tones::frequency_of(index) {
-        Frequency::Tenths(x) => x as u64,
-        Frequency::NoTone => NONE,
-    }
+    tones::frequency_of(index).map_or(NONE, |x| x as u64)
 }
 
 fn tone_numbers<W: Write>(out: &mut W, enabled: u64, index: u8) -> Result<()> {
@@ -76,10 +72,10 @@ fn fm<W: Write>(out: &mut W, i: FmInfo) -> Result<()> {
     tone(out, transmit)
 }
 
-fn called(c: ContactIndex) -> u64 {
+fn called(c: Option<u16>) -> u64 {
     match c {
-        ContactIndex::Nobody => NONE,
-        ContactIndex::Index(x) => x as u64,
+        None => NONE,
+        Some(x) => x as u64,
     }
 }
 
@@ -133,10 +129,8 @@ fn show<W: Write>(out: &mut W, c: Channel) -> Result<()> {
 }
 
 pub(crate) fn read<W: Write>(out: &mut W, record: &[u8]) -> Result<()> {
-    let read = channel_reader::read(record);
-    let validity = read.validity;
-    match validity {
-        Validity::Valid => show(out, read.channel),
-        Validity::Refused(n, p) => refused(out, n, p),
+    match channel_reader::read(record) {
+        Ok(channel) => show(out, channel),
+        Err(refusal) => write!(out, "{refusal}"),
     }
 }

@@ -6,15 +6,16 @@ mod print; // print.rt: the line of a case
 use fields::numbers::{byte_at, le32};
 use m17::{Edition, edition_of};
 use program_io::input::{LARGE, bytes, read_full};
-use std::io::{Read, Result, Write};
+use std::io;
+use std::io::{Read, Write};
 
-fn migrate<W: Write>(out: &mut W, file: &mut [u8], edition: Edition) -> Result<()> {
+fn migrate<W: Write>(out: &mut W, file: &mut [u8], edition: Edition) -> io::Result<()> {
     let answer = migration::migrate(file, edition);
     print::line(out, answer, file)
 }
 
 // Whether there was a case: a length of four bytes, low byte first, the edition's byte and then a file, which may be empty. The length counts the edition.
-fn one_case<R: Read, W: Write>(input: &mut R, out: &mut W, buffer: &mut [u8]) -> Result<bool> {
+fn one_case<R: Read, W: Write>(input: &mut R, out: &mut W, buffer: &mut [u8]) -> io::Result<bool> {
     let mut head = [0u8; 5];
     let got = read_full(input, &mut head)?;
     if got < 5 {
@@ -30,7 +31,7 @@ fn one_case<R: Read, W: Write>(input: &mut R, out: &mut W, buffer: &mut [u8]) ->
     Ok(true)
 }
 
-fn main(rt: HostRuntime) -> Result<()> {
+fn main(rt: HostRuntime) -> io::Result<()> {
     let mut input = rt.reader();
     let mut out = rt.stdout();
     let mut buffer = [0u8; LARGE];

@@ -1,20 +1,26 @@
 // The line of a case: the answer, and a sum over the whole file after the call.
-use program_io::print::{checksum, number, refused, word};
-use std::io::{Result, Write};
-use validation::Validated;
+use format::refusals::Refusal;
+use layout::Counts;
+use program_io::print::{checksum, number, word};
+use std::io;
+use std::io::Write;
 
-fn words<W: Write>(out: &mut W, a: Validated) -> Result<()> {
+fn words<W: Write>(out: &mut W, a: Result<Counts, Refusal>) -> io::Result<()> {
     match a {
-        Validated::Accepted(c) => {
+        Ok(c) => {
             number(out, b"ok ", c.contacts as u64)?;
             number(out, b" ", c.channels as u64)?;
             number(out, b" ", c.banks as u64)
         }
-        Validated::Refused(n, p) => refused(out, n, p),
+        Err(refusal) => write!(out, "{refusal}"),
     }
 }
 
-pub(crate) fn line<W: Write>(out: &mut W, a: Validated, file: &[u8]) -> Result<()> {
+pub(crate) fn line<W: Write>(
+    out: &mut W,
+    a: Result<Counts, Refusal>,
+    file: &[u8],
+) -> io::Result<()> {
     words(out, a)?;
     number(out, b" file ", checksum(file))?;
     word(out, b"\n")

@@ -1,6 +1,5 @@
 // Contacts read, as their lines have them.
 use contact::{Contact, ContactInfo, DmrContact};
-use fields::rule::Validity;
 use m17::{Address, Edition};
 use program_io::print;
 use std::io::{Result, Write};
@@ -30,10 +29,8 @@ fn show<W: Write>(out: &mut W, c: Contact) -> Result<()> {
 }
 
 pub(crate) fn read<W: Write>(out: &mut W, record: &[u8], edition: Edition) -> Result<()> {
-    let read = contact_reader::read(record, edition);
-    let validity = read.validity;
-    match validity {
-        Validity::Valid => show(out, read.contact),
-        Validity::Refused(n, p) => print::refused(out, n, p),
+    match contact_reader::read(record, edition) {
+        Ok(contact) => show(out, contact),
+        Err(refusal) => write!(out, "{refusal}"),
     }
 }

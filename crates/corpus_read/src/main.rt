@@ -6,27 +6,26 @@ mod contacts; // contacts.rt: contacts read
 
 use fields::numbers::byte_at;
 use layout::places::record_bytes;
-use m17::{Edition, Encoded, edition_of};
+use m17::{Edition, edition_of};
 use program_io::input::{LARGE, case};
 use program_io::print;
 use std::io::{Read, Result, Write};
-use validation::Validated;
 
 fn validate<W: Write>(out: &mut W, file: &[u8], edition: Edition) -> Result<()> {
     match validation::validate(file, edition) {
-        Validated::Accepted(c) => {
+        Ok(c) => {
             print::number(out, b"ok ", c.contacts as u64)?;
             print::number(out, b" ", c.channels as u64)?;
             print::number(out, b" ", c.banks as u64)
         }
-        Validated::Refused(n, p) => print::refused(out, n, p),
+        Err(refusal) => write!(out, "{refusal}"),
     }
 }
 
 fn encode<W: Write>(out: &mut W, text: &[u8], edition: Edition) -> Result<()> {
     match m17_encoder::encode(text, edition) {
-        Encoded::Number(n) => print::number(out, b"number ", n),
-        Encoded::Refused(n, p) => print::refused(out, n, p),
+        Ok(n) => print::number(out, b"number ", n),
+        Err(refusal) => write!(out, "{refusal}"),
     }
 }
 

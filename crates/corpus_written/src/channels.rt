@@ -3,9 +3,9 @@ ghost use Rattle.std.specs.Prelude.{◌<◌, ◌^◌};
 
 use crate::strings::{past_string, string};
 use bits::{Nibbles, signed_of};
-use channel::{Common, ContactIndex, DmrInfo, FmInfo, Info, Location, M17Info, Traits};
+use channel::{Common, DmrInfo, FmInfo, Info, Location, M17Info, Traits};
 use fields::numbers::{byte_at, le16, le32};
-use fields::rule::Validity;
+use format::refusals::Refusal;
 use tones::Tone;
 
 fn flag_at(case: &[u8], k: usize) -> bool {
@@ -55,13 +55,13 @@ fn tone_at(case: &[u8], k: usize) -> Tone
     }
 }
 
-fn contact_at(case: &[u8], k: usize) -> ContactIndex
+fn contact_at(case: &[u8], k: usize) -> Option<u16>
     requires { k < 2 ^ 33 }
 {
     if flag_at(case, k) {
-        ContactIndex::Index(le16(case, k + 1))
+        Some(le16(case, k + 1))
     } else {
-        ContactIndex::Nobody
+        None
     }
 }
 
@@ -119,7 +119,7 @@ fn info_at(case: &[u8], mode: u8, k: usize) -> Info
 }
 
 // Writes the channel that stands in a case from k on over a buffer.
-pub(crate) fn write(case: &[u8], k: usize, out: &mut [u8]) -> Validity
+pub(crate) fn write(case: &[u8], k: usize, out: &mut [u8]) -> Result<(), Refusal>
     requires { k < 300 }
 {
     let name = k + 14;

@@ -4,7 +4,7 @@ ghost use Rattle.std.specs.Prelude.{◌<◌, ◌^◌};
 use crate::strings::{past_string, string};
 use contact::{ContactInfo, DmrContact, Settings};
 use fields::numbers::{byte_at, le32, le64};
-use fields::rule::Validity;
+use format::refusals::Refusal;
 use m17::{Address, Edition};
 
 fn dmr_at(case: &[u8], k: usize) -> DmrContact
@@ -35,7 +35,7 @@ fn info_at(case: &[u8], k: usize) -> ContactInfo
 }
 
 // Writes the contact that stands in a case from k on over a buffer.
-pub(crate) fn write(case: &[u8], k: usize, out: &mut [u8], edition: Edition) -> Validity
+pub(crate) fn write(case: &[u8], k: usize, out: &mut [u8], edition: Edition) -> Result<(), Refusal>
     requires { k < 300 }
 {
     let info = info_at(case, past_string(case, k));

@@ -11,18 +11,19 @@ ghost use Rattle.std.specs.Prelude.{◌<◌};
 
 use crate::strings::{past_string, put_first, string};
 use fields::numbers::{byte_at, le64};
-use fields::rule::Validity;
+use format::refusals::Refusal;
 use layout::places::record_bytes;
 use m17::{Decoded, Edition, edition_of};
 use program_io::input::case;
-use program_io::print::{refused, word};
-use std::io::{Read, Result, Write};
+use program_io::print::word;
+use std::io;
+use std::io::{Read, Write};
 
-fn decoded<W: Write>(out: &mut W, d: Decoded) -> Result<()> {
+fn decoded<W: Write>(out: &mut W, d: Result<Decoded, Refusal>) -> io::Result<()> {
     match d {
-        Decoded::Text(_) => word(out, b"text"),
-        Decoded::Broadcast => word(out, b"broadcast"),
-        Decoded::Refused(n, p) => refused(out, n, p),
+        Ok(Decoded::Text(_)) => word(out, b"text"),
+        Ok(Decoded::Broadcast) => word(out, b"broadcast"),
+        Err(refusal) => write!(out, "{refusal}"),
     }
 }
 
@@ -32,13 +33,13 @@ fn edition_at(case: &[u8]) -> Edition {
 }
 
 // A number's text, over a buffer.
-fn decode<W: Write>(out: &mut W, n: u64, room: &mut [u8], edition: Edition) -> Result<()> {
+fn decode<W: Write>(out: &mut W, n: u64, room: &mut [u8], edition: Edition) -> io::Result<()> {
     decoded(out, m17_decoder::decode(n, room, edition))?;
     print::buffer(out, room)
 }
 
 // The record that stands in a case from k on, over a buffer.
-fn record(case: &[u8], k: usize, room: &mut [u8]) -> Validity
+fn record(case: &[u8], k: usize, room: &mut [u8]) -> Result<(), Refusal>
     requires { k < 300 }
 {
     if byte_at(case, 0) % 4 == 1 {
@@ -48,7 +49,7 @@ fn record(case: &[u8], k: usize, room: &mut [u8]) -> Validity
 }
 
 // The same, with its line.
-fn write<W: Write>(out: &mut W, case: &[u8], k: usize, room: &mut [u8]) -> Result<()>
+fn write<W: Write>(out: &mut W, case: &[u8], k: usize, room: &mut [u8]) -> io::Result<()>
     requires { k < 300 }
 {
     print::validity(out, record(case, k, room))?;
@@ -56,7 +57,7 @@ fn write<W: Write>(out: &mut W, case: &[u8], k: usize, room: &mut [u8]) -> Resul
 }
 
 // A record stands behind the output buffer before the call, a number before the text buffer.
-fn answer<W: Write>(out: &mut W, case: &[u8], scratch: &mut [u8]) -> Result<()> {
+fn answer<W: Write>(out: &mut W, case: &[u8], scratch: &mut [u8]) -> io::Result<()> {
     if byte_at(case, 0) % 4 < 3 {
         let n = put_first(scratch, string(case, 2));
         write(out, case, past_string(case, 2), &mut scratch[..n])
@@ -73,7 +74,7 @@ fn one_case<R: Read, W: Write>(
     out: &mut W,
     buffer: &mut [u8],
     scratch: &mut [u8],
-) -> Result<bool> {
+) -> io::Result<bool> {
     let n = case(input, buffer)?;
     if n == 0 {
         return Ok(false);
@@ -82,7 +83,7 @@ fn one_case<R: Read, W: Write>(
     Ok(true)
 }
 
-fn main(rt: HostRuntime) -> Result<()> {
+fn main(rt: HostRuntime) -> io::Result<()> {
     let mut input = rt.reader();
     let mut out = rt.stdout();
     let mut buffer = [0u8; 4096];

@@ -1,17 +1,18 @@
 // A call's answer and a whole buffer, as lines have them.
-use fields::rule::Validity;
-use program_io::print::{bytes, refused, word};
-use std::io::{Result, Write};
+use format::refusals::Refusal;
+use program_io::print::{bytes, word};
+use std::io;
+use std::io::Write;
 
-pub(crate) fn validity<W: Write>(out: &mut W, v: Validity) -> Result<()> {
+pub(crate) fn validity<W: Write>(out: &mut W, v: Result<(), Refusal>) -> io::Result<()> {
     match v {
-        Validity::Valid => word(out, b"wrote"),
-        Validity::Refused(n, p) => refused(out, n, p),
+        Ok(()) => word(out, b"wrote"),
+        Err(refusal) => write!(out, "{refusal}"),
     }
 }
 
 // A whole buffer after a call, and the line's end.
-pub(crate) fn buffer<W: Write>(out: &mut W, room: &[u8]) -> Result<()> {
+pub(crate) fn buffer<W: Write>(out: &mut W, room: &[u8]) -> io::Result<()> {
     word(out, b" ")?;
     bytes(out, room)?;
     word(out, b"\n")

@@ -10,10 +10,10 @@ use lib.Seq.{drop-drop}
 use borrow.Author.Tests.{eq-eqb, ne_eqb}
 use Rattle.fields.specs.Bytes.{part, num}
 use Rattle.channel.specs.Rule.{named_contact}
-use Rattle.channel.specs.declared.ContactIndex.{ContactIndex}
 use Rattle.layout.specs.Banks.{entry_count, next_bank}
 use Rattle.model.specs.Codeplug.{blocks, indexes_at, banks_at}
 use Rattle.model.specs.EditRules.{is_index, some_names, holds_channel, some_holds}
+use Rattle.std.specs.Prelude.{Option}
 
 -- ---- one step of a walk: all is the answer, b the record's, s what is left
 
@@ -41,18 +41,19 @@ names-step i n m p f h =
     rw e (names-suc i (n - (m + 1)) p f)
 
 -- the channel at p is s, its contact index x
-pub names-found : (i n m p : ℕ) (f : List ℕ) (all b : Bool) (s : List ℕ) (x : ContactIndex) → m < n
+pub names-found : (i n m p : ℕ) (f : List ℕ) (all b : Bool) (s : List ℕ) (x : Option ℕ) → m < n
     → all ≡ some_names i (blocks 90 (n - m) (drop p f)) → s ≡ part f p 90 → x ≡ named_contact s → b ≡ is_index i x → b ≡ true → true ≡ all
 names-found i n m p f all b s x h e ds dx db g =
     or-found all (is_index i (named_contact (part f p 90))) (some_names i (blocks 90 (n - (m + 1)) (drop (p + 90) f)))
     (e ∙ names-step i n m p f h) (rw (← ds, ← dx, ← db) g)
 
-pub names-next : (i n m p : ℕ) (f : List ℕ) (all b : Bool) (s : List ℕ) (x : ContactIndex) → m < n
-    → all ≡ some_names i (blocks 90 (n - m) (drop p f)) → s ≡ part f p 90 → x ≡ named_contact s → b ≡ is_index i x → b ≡ false
-    → all ≡ some_names i (blocks 90 (n - (m + 1)) (drop (p + 90) f))
-names-next i n m p f all b s x h e ds dx db g =
-    or-next all (is_index i (named_contact (part f p 90))) (some_names i (blocks 90 (n - (m + 1)) (drop (p + 90) f)))
-    (e ∙ names-step i n m p f h) (rw (← ds, ← dx, ← db) g)
+pub names-next : (i n m p q : ℕ) (f : List ℕ) (all b : Bool) (s : List ℕ) (x : Option ℕ) → m < n
+    → all ≡ some_names i (blocks 90 (n - m) (drop p f)) → s ≡ part f p 90 → x ≡ named_contact s → b ≡ is_index i x → b ≡ false → q ≡ p + 90
+    → all ≡ some_names i (blocks 90 (n - (m + 1)) (drop q f))
+names-next i n m p q f all b s x h e ds dx db g dq =
+    rw dq
+    (or-next all (is_index i (named_contact (part f p 90))) (some_names i (blocks 90 (n - (m + 1)) (drop (p + 90) f)))
+    (e ∙ names-step i n m p f h) (rw (← ds, ← dx, ← db) g))
 
 -- ---- entries that are channel i
 
@@ -76,11 +77,12 @@ holds-found i n m p f all x h e d g =
     or-found all (eqb (num f p 2) i) (holds_channel i (indexes_at f (n - (m + 1)) (p + 2)))
     (e ∙ holds-step i n m p f h) (eq-eqb (num f p 2) i (sym d ∙ g))
 
-pub holds-next : (i n m p : ℕ) (f : List ℕ) (all : Bool) (x : ℕ) → m < n → all ≡ holds_channel i (indexes_at f (n - m) p) → x ≡ num f p 2
-    → (x ≡ i → ⊥) → all ≡ holds_channel i (indexes_at f (n - (m + 1)) (p + 2))
-holds-next i n m p f all x h e d g =
-    or-next all (eqb (num f p 2) i) (holds_channel i (indexes_at f (n - (m + 1)) (p + 2)))
-    (e ∙ holds-step i n m p f h) (ne_eqb (num f p 2) i (λ a. g (d ∙ a)))
+pub holds-next : (i n m p q : ℕ) (f : List ℕ) (all : Bool) (x : ℕ) → m < n → all ≡ holds_channel i (indexes_at f (n - m) p) → x ≡ num f p 2
+    → (x ≡ i → ⊥) → q ≡ p + 2 → all ≡ holds_channel i (indexes_at f (n - (m + 1)) q)
+holds-next i n m p q f all x h e d g dq =
+    rw dq
+    (or-next all (eqb (num f p 2) i) (holds_channel i (indexes_at f (n - (m + 1)) (p + 2)))
+    (e ∙ holds-step i n m p f h) (ne_eqb (num f p 2) i (λ a. g (d ∙ a))))
 
 -- ---- banks that hold channel i
 

@@ -6,9 +6,7 @@ use mathlib.Core.List.{List}
 use lib.ListN.{length}
 use lib.Dec.{leb, eqb}
 use borrow.Author.Tests.{eqb-true, not-true}
-use Rattle.fields.specs.Rule.{◌then◌, unless}
-use Rattle.fields.specs.declared.rule.Validity.{Validity}
-use Rattle.fields.specs.declared.rule.Validity.TheVariants.{Valid, Refused}
+use Rattle.fields.specs.Rule.{◌then◌, unless, Validity, Valid}
 use Rattle.fields.proofs.Laws.{AllBytes, then-valid, then-assoc, unless-valid}
 use Rattle.m17.specs.declared.Edition.{Edition}
 use Rattle.file_rule.specs.File.{file_rule}
@@ -22,14 +20,17 @@ use Rattle.edits.specs.Editing.{refuses_known}
 use Rattle.edits.proofs.ResultLaws.{result-validated}
 use Rattle.edit_result.proofs.LengthLaws.{result-long}
 use Rattle.edit_result.proofs.ValidityLaws.{first-bad, first_rest}
+use Rattle.format.specs.declared.refusals.Reason.TheVariants as reason
+use Rattle.format.specs.declared.refusals.Refusal.{Refusal}
+use Rattle.std.specs.Prelude.{Err}
 
 -- the four tests before the result is read
 abbrev pub early_rule : Kind → ℕ → ℕ → List ℕ → List ℕ → Validity
 early_rule k i j r f =
-    unless (eqb (length r) (record_length k)) 32 0
-    then unless (place_ok k i j (codeplug_of f)) 33 0
-    then unless (count_ok k i (codeplug_of f)) 34 0
-    then unless (not (in_use k i (codeplug_of f))) 35 0
+    unless (eqb (length r) (record_length k)) reason.NoEdit 0
+    then unless (place_ok k i j (codeplug_of f)) reason.NoPlace 0
+    then unless (count_ok k i (codeplug_of f)) reason.Full 0
+    then unless (not (in_use k i (codeplug_of f))) reason.InUse 0
 
 -- what an edit has that passes them
 pub record Passed (k : Kind) (i j : ℕ) (r f : List ℕ) : Type 0 where
@@ -58,14 +59,11 @@ module _ (k : Kind) (i j : ℕ) (r f : List ℕ) where
   module _ (room : ℕ) where
     -- the result, read and measured
     abbrev late : (ed : Edition) → Validity
-    late ed = file_rule ed (result k i j r f) then unless (leb (length (result k i j r f)) room) 36 0
+    late ed = file_rule ed (result k i j r f) then unless (leb (length (result k i j r f)) room) reason.NoRoom 0
 
     in_two : (ed : Edition) → early_rule k i j r f then late ed ≡ refuses_known ed k i j r room f
     unfolding refuses_known
     in_two ed = four-then _ _ _ _ (late ed)
-
-    pub refused-early : (ed : Edition) (v : Validity) (n p : ℕ) → v ≡ early_rule k i j r f → v ≡ Refused n p → v ≡ refuses_known ed k i j r room f
-    refused-early ed v n p e g = first-bad (early_rule k i j r f) (late ed) v n p e g ∙ in_two ed
 
     module _ (ed : Edition) (v : Validity) (e : v ≡ early_rule k i j r f) (g : v ≡ Valid) (bytes : AllBytes f) (record-bytes : AllBytes r)
         (valid : file_rule ed f ≡ Valid) where
@@ -74,12 +72,12 @@ module _ (k : Kind) (i j : ℕ) (r f : List ℕ) where
           let a = early-passed v e g in
           result-validated ed k i j r f bytes record-bytes valid a.wide a.place a.count a.free
 
-      pub refused-read : (w : Validity) (n p : ℕ) → w ≡ result_rule ed k i j r f → w ≡ Refused n p → w ≡ refuses_known ed k i j r room f
-      refused-read w n p d b =
-          first_rest (early_rule k i j r f) (late ed) v w e g (first-bad _ _ w n p (d ∙ sym validated) b) ∙ in_two ed
+      pub refused-read : (w : Validity) (x : Refusal) → w ≡ result_rule ed k i j r f → w ≡ Err x → w ≡ refuses_known ed k i j r room f
+      refused-read w x d b =
+          first_rest (early_rule k i j r f) (late ed) v w e g (first-bad _ _ w x (d ∙ sym validated) b) ∙ in_two ed
 
       pub refused-room : (w x : Validity) (n : ℕ) → w ≡ result_rule ed k i j r f → w ≡ Valid → n ≡ result_length k i f
-          → x ≡ unless (leb n room) 36 0 → x ≡ refuses_known ed k i j r room f
+          → x ≡ unless (leb n room) reason.NoRoom 0 → x ≡ refuses_known ed k i j r room f
       refused-room w x n d b m u =
           let a = early-passed v e g in
           let l = result-long ed k i j r f bytes record-bytes valid a.wide a.place a.count a.free in

@@ -5,25 +5,23 @@ ghost use Rattle.model.specs.EditRules.{some_names, holds_channel, some_holds, i
 
 use channel::values::named_contact;
 use fields::numbers::le16;
-use format::sizes::{BANK_HEAD_SIZE, CHANNEL_SIZE};
+use format::sizes::{BANK_ENTRY_SIZE, BANK_HEAD_SIZE, CHANNEL_SIZE};
 use layout::places::{
     bank_count, banks_place, channel_count, channel_place, entry_count, next_bank, record_bytes,
 };
 use model::{Kind, is_index};
 
 // Whether some DMR or M17 channel names contact i.
+#[tactic(auto, unfolding(model::specs::Codeplug::codeplug_of))]
 pub(crate) fn some_names(f: &[u8], i: usize) -> bool
     ensures { result ≡ some_names i (codeplug_of f.now).channels }
 {
-    let channels = channel_count(f);
-    let mut n = 0;
-    let mut p = channel_place(f, 0);
-    while n < channels {
-        if is_index(named_contact(record_bytes(f, p, CHANNEL_SIZE)), i) {
+    let start = channel_place(f, 0);
+    for n in 0..channel_count(f) {
+        let channel = record_bytes(f, start + n * CHANNEL_SIZE, CHANNEL_SIZE);
+        if is_index(named_contact(channel), i) {
             return true;
         }
-        n += 1;
-        p += CHANNEL_SIZE;
     }
     false
 }
@@ -33,31 +31,25 @@ fn bank_holds(f: &[u8], n: usize, start: usize, i: usize) -> bool
     requires { (n < 65536) × (start < 2 ^ 50) }
     ensures { result ≡ holds_channel i (indexes_at f.now n start) }
 {
-    let mut j = 0;
-    let mut p = start;
-    while j < n {
-        if le16(f, p) as usize == i {
+    for j in 0..n {
+        if le16(f, start + j * BANK_ENTRY_SIZE) as usize == i {
             return true;
         }
-        j += 1;
-        p += 2;
     }
     false
 }
 
 // Whether some bank holds channel i.
+#[tactic(auto, unfolding(model::specs::Codeplug::codeplug_of))]
 pub(crate) fn some_holds(f: &[u8], i: usize) -> bool
     ensures { result ≡ some_holds i (codeplug_of f.now).banks }
 {
-    let banks = bank_count(f);
-    let mut n = 0;
     let mut p = banks_place(f);
-    while n < banks {
+    for _ in 0..bank_count(f) {
         if bank_holds(f, entry_count(f, p), p + BANK_HEAD_SIZE, i) {
             return true;
         }
         p = next_bank(f, p);
-        n += 1;
     }
     false
 }

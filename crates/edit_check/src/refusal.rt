@@ -1,7 +1,7 @@
 // What refuses an edit of an accepted file: 32 to 35, what reading its result gives, 36.
 ghost use Rattle.std.specs.Prelude.{◌≡◌, not, length, eqb};
 ghost use Rattle.fields.specs.Rule.{◌then◌, unless};
-ghost use Rattle.fields.specs.declared.rule.Validity.TheVariants.{Valid};
+ghost use Rattle.fields.specs.Rule.{Valid};
 ghost use Rattle.file_rule.specs.File.{file_rule};
 ghost use Rattle.model.specs.Codeplug.{codeplug_of};
 ghost use Rattle.model.specs.HasLayout.{HasLayout};
@@ -12,32 +12,28 @@ ghost use Rattle.edits.specs.Editing.{refuses_known};
 use crate::in_use::in_use;
 use crate::places::{count_ok, place_ok};
 use edit_result::{result_length, result_validity};
-use fields::rule::{Validity, unless};
-use format::refusals::{FULL, IN_USE, NO_EDIT, NO_PLACE, NO_ROOM};
+use fields::rule::unless;
+use format::refusals::{Reason, Refusal};
 use m17::Edition;
 use model::{Kind, record_length};
 
 // What refuses an edit before its result is read.
-fn early_refusal(f: &[u8], k: Kind, i: usize, j: usize, r: &[u8]) -> Validity
+#[tactic(auto, using(fields::proofs::Laws::ok_then, fields::proofs::Laws::err_then))]
+fn early_refusal(f: &[u8], k: Kind, i: usize, j: usize, r: &[u8]) -> Result<(), Refusal>
     requires { HasLayout f.now }
-    ensures { result ≡ unless (eqb (length r.now) (record_length k)) 32 0
-        then unless (place_ok k i j (codeplug_of f.now)) 33 0
-        then unless (count_ok k i (codeplug_of f.now)) 34 0
-        then unless (not (in_use k i (codeplug_of f.now))) 35 0 }
+    ensures { result ≡ unless (eqb (length r.now) (record_length k)) Reason.NoEdit 0
+        then unless (place_ok k i j (codeplug_of f.now)) Reason.NoPlace 0
+        then unless (count_ok k i (codeplug_of f.now)) Reason.Full 0
+        then unless (not (in_use k i (codeplug_of f.now))) Reason.InUse 0 }
 {
-    if r.len() != record_length(k) {
-        return Validity::Refused(NO_EDIT, 0);
-    }
-    if !place_ok(f, k, i, j) {
-        return Validity::Refused(NO_PLACE, 0);
-    }
-    if !count_ok(f, k, i) {
-        return Validity::Refused(FULL, 0);
-    }
-    unless(!in_use(f, k, i), IN_USE, 0)
+    unless(r.len() == record_length(k), Reason::NoEdit, 0)?;
+    unless(place_ok(f, k, i, j), Reason::NoPlace, 0)?;
+    unless(count_ok(f, k, i), Reason::Full, 0)?;
+    unless(!in_use(f, k, i), Reason::InUse, 0)
 }
 
 // 32 (the record's length), 33, 34, 35, what reading the result gives, 36.
+#[tactic(auto, unfolding(edits::specs::Editing::refuses_known), using(fields::proofs::Laws::ok_then, fields::proofs::Laws::err_then))]
 pub fn refusal(
     f: &[u8],
     room: usize,
@@ -46,17 +42,11 @@ pub fn refusal(
     j: usize,
     r: &[u8],
     edition: Edition,
-) -> Validity
+) -> Result<(), Refusal>
     requires { file_rule edition f.now ≡ Valid }
     ensures { result ≡ refuses_known edition k i j r.now room f.now }
 {
-    let early = early_refusal(f, k, i, j, r);
-    if let Validity::Refused(_, _) = early {
-        return early;
-    }
-    let read = result_validity(f, k, i, j, r, edition);
-    if let Validity::Refused(_, _) = read {
-        return read;
-    }
-    unless(result_length(f, k, i) <= room, NO_ROOM, 0)
+    early_refusal(f, k, i, j, r)?;
+    result_validity(f, k, i, j, r, edition)?;
+    unless(result_length(f, k, i) <= room, Reason::NoRoom, 0)
 }

@@ -8,7 +8,6 @@ use lib.ListN.{length, get_or, length-map}
 use lib.Dec.{leb, ltb}
 use borrow.Author.Tests.{leb-true, ltb-true}
 use Rattle.fields.specs.Bytes.{little}
-use Rattle.fields.specs.declared.rule.Validity.TheVariants.{Valid}
 use Rattle.fields.proofs.Laws.{AllBytes}
 use Rattle.bits.proofs.Laws.{and_right}
 use Rattle.m17.specs.declared.Edition.{Edition}
@@ -35,6 +34,7 @@ use Rattle.edits.proofs.ChannelEdits.{moved_length}
 use Rattle.edits.proofs.EditShape.{up_to, below, edited-shaped}
 use Rattle.layout.proofs.Laws.{bank-inside}
 use Rattle.model.proofs.PlaceLaws.{entries_at, bank-behind}
+use Rattle.fields.specs.Rule.{Valid}
 
 -- ---- an edit of an accepted codeplug, whose result is shaped
 

@@ -9,14 +9,11 @@ use lib.Seq.{take_all}
 use lib.Dec.{ltb, eqb}
 use borrow.Author.Tests.{leb-true}
 use Rattle.fields.specs.Bytes.{part, num, little}
-use Rattle.fields.specs.Rule.{◌then◌, unless}
-use Rattle.fields.specs.declared.rule.Validity.{Validity}
-use Rattle.fields.specs.declared.rule.Validity.TheVariants.{Valid, Refused}
-use Rattle.fields.proofs.Laws.{valid-then, then-refused}
+use Rattle.fields.specs.Rule.{◌then◌, unless, Validity, Valid}
+use Rattle.fields.proofs.Laws.{valid-then, err_then}
 use Rattle.bits.proofs.Laws.{and_right}
 use Rattle.channel.specs.Values.{contact_index_place}
 use Rattle.channel.specs.Rule.{named_contact}
-use Rattle.channel.specs.declared.ContactIndex.{ContactIndex}
 use Rattle.layout.specs.Places.{channel_count, bank_count}
 use Rattle.layout.specs.Banks.{bank_place}
 use Rattle.layout.proofs.Laws.{contact_count-lt, channel_count-lt, entry_count-lt}
@@ -26,17 +23,43 @@ use Rattle.model.specs.HasLayout.{HasLayout}
 use Rattle.model.specs.EditRules.{place_ok, entries_in, is_index}
 use Rattle.model.specs.declared.Kind.{Kind}
 use Rattle.model.specs.declared.Kind.TheVariants.{InsertContact, RemoveContact, ReplaceContact, InsertChannel, RemoveChannel, ReplaceChannel, InsertBank, RemoveBank, RenameBank, InsertEntry, RemoveEntry, SetHeader}
-use Rattle.edits.specs.ResultValidity.{index_place, keeps_mode}
+use Rattle.edits.specs.ResultValidity.{index_place, keeps_mode, may_grow, result_rule}
+use Rattle.edit_result.specs.Growth.{growth_rule}
+use Rattle.m17.specs.declared.Edition.{Edition}
 use Rattle.edits.proofs.EditShape.{up_to, below}
 use Rattle.model.proofs.PlaceLaws.{contacts-count, channels-count, banks-count, entries_at}
+use Rattle.std.specs.Prelude.{Option, Err}
+use Rattle.format.specs.declared.refusals.Reason.TheVariants as reason
+use Rattle.format.specs.declared.refusals.Refusal.{Refusal}
 
 -- ---- one validity, then another
 
-pub first-bad : (a b v : Validity) (n p : ℕ) → v ≡ a → v ≡ Refused n p → v ≡ a then b
-first-bad a b v n p e g = g ∙ sym (then-refused a b n p (sym e ∙ g))
+pub first-bad : (a b v : Validity) (x : Refusal) → v ≡ a → v ≡ Err x → v ≡ a then b
+first-bad a b v x e g = g ∙ sym (ap (λ (y : Validity). y then b) (sym e ∙ g) ∙ err_then x b)
 
 pub first_rest : (a b v w : Validity) → v ≡ a → v ≡ Valid → w ≡ b → w ≡ a then b
 first_rest a b v w e g d = d ∙ sym (valid-then a b (sym e ∙ g))
+
+-- ---- an edit of a file that may not grow
+
+valid-err : {A : Type 0} (e : Refusal) → ◌≡◌ {A = Validity} Valid (Err e) → A
+valid-err e g = let z : ◌≡◌ {A = ℕ} 0 1 = cc in absurd (omega arith)
+
+-- so its result is refused, whatever the record is
+pub growth_refused : (ed : Edition) (k : Kind) (i j : ℕ) (r f : List ℕ) (e : Refusal) → growth_rule k f ≡ Err e → result_rule ed k i j r f ≡ Err e
+unfolding may_grow unless ◌then◌
+growth_refused ed InsertContact i j r f e g = rw g
+growth_refused ed RemoveContact i j r f e g = valid-err e g
+growth_refused ed ReplaceContact i j r f e g = valid-err e g
+growth_refused ed InsertChannel i j r f e g = rw g
+growth_refused ed RemoveChannel i j r f e g = valid-err e g
+growth_refused ed ReplaceChannel i j r f e g = valid-err e g
+growth_refused ed InsertBank i j r f e g = rw g
+growth_refused ed RemoveBank i j r f e g = valid-err e g
+growth_refused ed RenameBank i j r f e g = valid-err e g
+growth_refused ed InsertEntry i j r f e g = rw g
+growth_refused ed RemoveEntry i j r f e g = valid-err e g
+growth_refused ed SetHeader i j r f e g = valid-err e g
 
 -- ---- the places of an edit
 
@@ -100,9 +123,9 @@ whole-number r h = ap little (take_all 2 r (omega arith))
 
 -- ---- a channel at p: s are its bytes, m its mode, x its contact index
 
-module _ (f : List ℕ) (i mode p : ℕ) (s : List ℕ) (m : ℕ) (x : ContactIndex) (t : Bool) (ds : s ≡ part f p 90) (dm : m ≡ get_or s 0 0)
+module _ (f : List ℕ) (i mode p : ℕ) (s : List ℕ) (m : ℕ) (x : Option ℕ) (t : Bool) (ds : s ≡ part f p 90) (dm : m ≡ get_or s 0 0)
     (dx : x ≡ named_contact s) (dt : t ≡ is_index i x) where
-  pub keeps-named : (v : Validity) (q : ℕ) → t ≡ true → q ≡ contact_index_place m → v ≡ unless (eqb m mode) 9 (p + q) → v ≡ keeps_mode f i mode p
+  pub keeps-named : (v : Validity) (q : ℕ) → t ≡ true → q ≡ contact_index_place m → v ≡ unless (eqb m mode) reason.ContactIndex (p + q) → v ≡ keeps_mode f i mode p
   unfolding keeps_mode index_place
   keeps-named v q h dq d =
       let e : is_index i (named_contact (part f p 90)) ≡ true = rw (← ds, ← dx, ← dt) h in

@@ -5,7 +5,7 @@ ghost use Rattle.std.specs.Prelude.{◌≡◌, true, ℕ, ◌+◌, ◌*◌, ◌<
 ghost use Rattle.fields.specs.Bytes.{part, little};
 ghost use Rattle.text.specs.Text.{text_ok};
 ghost use Rattle.fields.specs.Rule.{◌then◌, unless, each};
-ghost use Rattle.fields.specs.declared.rule.Validity.TheVariants.{Valid};
+ghost use Rattle.fields.specs.Rule.{Valid};
 ghost use Rattle.layout.specs.Places.{channel_count, bank_count, contact_place, channel_place};
 ghost use Rattle.layout.specs.Banks.{bank_place};
 ghost use Rattle.contact.specs.Contact.{contact_rule};
@@ -20,9 +20,9 @@ ghost use Rattle.edit_result.specs.Growth.{growth, growth_rule};
 
 use channel::values::{contact_index_place, named_contact};
 use fields::numbers::{byte_at, le16};
-use fields::rule::{Validity, first, unless};
+use fields::rule::unless;
 use file_channels::index_ok;
-use format::refusals::{BANK_ENTRY, CONTACT_INDEX, TEXT, TOO_LONG};
+use format::refusals::{Reason, Refusal};
 use format::sizes::{
     BANK_ENTRY_SIZE, BANK_HEAD_SIZE, CHANNEL_SIZE, CONTACT_MODE_AT, CONTACT_SIZE, EMPTY_BANK_SIZE,
     FILE_MAX, OFFSET_SIZE,
@@ -47,58 +47,50 @@ fn growth(k: Kind) -> usize
 }
 
 // The file may grow by what an edit puts in.
-fn may_grow(f: &[u8], k: Kind) -> Validity
+fn may_grow(f: &[u8], k: Kind) -> Result<(), Refusal>
     ensures { result ≡ growth_rule k f.now }
 {
     let n = growth(k);
-    unless((n == 0) | (f.len() + n <= FILE_MAX), TOO_LONG, 0)
+    unless((n == 0) | (f.len() + n <= FILE_MAX), Reason::TooLong, 0)
 }
 
 // A channel at p that names contact i is of this mode.
-fn keeps_mode(f: &[u8], i: usize, mode: u8, p: usize) -> Validity
+fn keeps_mode(f: &[u8], i: usize, mode: u8, p: usize) -> Result<(), Refusal>
     requires { p < 2 ^ 60 }
     ensures { result ≡ keeps_mode f.now i mode p }
 {
     let s = record_bytes(f, p, CHANNEL_SIZE);
     let m = byte_at(s, 0);
     if is_index(named_contact(s), i) {
-        return unless(m == mode, CONTACT_INDEX, p + contact_index_place(m));
+        return unless(m == mode, Reason::ContactIndex, p + contact_index_place(m));
     }
-    Validity::Valid
+    Ok(())
 }
 
 // Every channel that names contact i is of this mode.
-fn all_keep_mode(f: &[u8], i: usize, mode: u8) -> Validity
+#[tactic(auto, using(fields::proofs::Laws::each_more, fields::proofs::Laws::each_refused, fields::proofs::Laws::each_none))]
+fn all_keep_mode(f: &[u8], i: usize, mode: u8) -> Result<(), Refusal>
     ensures { result ≡ each (keeps_mode f.now i mode) (channel_count f.now) 90 (channel_place f.now 0) }
 {
-    let channels = channel_count(f);
-    let mut n = 0;
-    let mut p = channel_place(f, 0);
-    while n < channels {
-        let v = keeps_mode(f, i, mode, p);
-        if let Validity::Refused(_, _) = v {
-            return v;
-        }
-        n += 1;
-        p += CHANNEL_SIZE;
+    let start = channel_place(f, 0);
+    for n in 0..channel_count(f) {
+        keeps_mode(f, i, mode, start + n * CHANNEL_SIZE)?;
     }
-    Validity::Valid
+    Ok(())
 }
 
-fn replace_contact(f: &[u8], i: usize, r: &[u8], edition: Edition) -> Validity
+#[tactic(auto, unfolding(contact::specs::Contact::contact_rule), using(fields::proofs::Laws::ok_then, fields::proofs::Laws::err_then))]
+fn replace_contact(f: &[u8], i: usize, r: &[u8], edition: Edition) -> Result<(), Refusal>
     requires { i < 65536 }
     ensures { result ≡ contact_rule edition r.now (contact_place i)
         then each (keeps_mode f.now i (get_or r.now 32 0)) (channel_count f.now) 90 (channel_place f.now 0) }
 {
-    let v = contact_validation::validate(r, contact_place(i), edition);
-    if let Validity::Refused(_, _) = v {
-        return v;
-    }
+    contact_validation::validate(r, contact_place(i), edition)?;
     all_keep_mode(f, i, byte_at(r, CONTACT_MODE_AT))
 }
 
 // The record as channel i of the file.
-fn put_channel(f: &[u8], i: usize, r: &[u8]) -> Validity
+fn put_channel(f: &[u8], i: usize, r: &[u8]) -> Result<(), Refusal>
     requires { i < 65536 }
     ensures { result ≡ channel_rule r.now (channel_place f.now i) (index_ok f.now r.now) }
 {
@@ -107,34 +99,41 @@ fn put_channel(f: &[u8], i: usize, r: &[u8]) -> Validity
 }
 
 // The name of bank i, which then stands d bytes behind where the bank is now.
-fn name_bank(f: &[u8], i: usize, d: usize, r: &[u8]) -> Validity
+fn name_bank(f: &[u8], i: usize, d: usize, r: &[u8]) -> Result<(), Refusal>
     requires { (HasLayout f.now) × ((i ≤ bank_count f.now) × ((length r.now ≡ 32) × (d ≤ 4))) }
-    ensures { result ≡ unless (text_ok r.now) 5 (bank_place f.now i + d) }
+    ensures { result ≡ unless (text_ok r.now) Reason.Text (bank_place f.now i + d) }
 {
-    unless(text_ok(r), TEXT, bank_place(f, i) + d)
+    unless(text_ok(r), Reason::Text, bank_place(f, i) + d)
 }
 
-fn put_entry(f: &[u8], i: usize, j: usize, r: &[u8]) -> Validity
+fn put_entry(f: &[u8], i: usize, j: usize, r: &[u8]) -> Result<(), Refusal>
     requires { (HasLayout f.now) × ((i ≤ bank_count f.now) × ((j < 65536) × (length r.now ≡ 2))) }
-    ensures { result ≡ unless (ltb (little r.now) (channel_count f.now)) 11 (bank_place f.now i + 34 + j * 2) }
+    ensures { result ≡ unless (ltb (little r.now) (channel_count f.now)) Reason.BankEntry (bank_place f.now i + 34 + j * 2) }
 {
     let index = le16(r, 0) as usize;
     let channels = channel_count(f);
     let p = bank_place(f, i) + BANK_HEAD_SIZE + j * BANK_ENTRY_SIZE;
-    unless(index < channels, BANK_ENTRY, p)
+    unless(index < channels, Reason::BankEntry, p)
 }
 
-fn set_header(r: &[u8]) -> Validity
+#[tactic(auto, using(fields::proofs::Laws::ok_then, fields::proofs::Laws::err_then))]
+fn set_header(r: &[u8]) -> Result<(), Refusal>
     requires { length r.now ≡ 72 }
-    ensures { result ≡ unless (text_ok (part r.now 0 32)) 5 10 then unless (text_ok (part r.now 32 32)) 5 42 }
+    ensures { result ≡ unless (text_ok (part r.now 0 32)) Reason.Text 10 then unless (text_ok (part r.now 32 32)) Reason.Text 42 }
 {
-    let author = unless(text_ok(record_bytes(r, 0, 32)), TEXT, 10);
-    let description = unless(text_ok(record_bytes(r, 32, 32)), TEXT, 42);
-    first(author, description)
+    unless(text_ok(record_bytes(r, 0, 32)), Reason::Text, 10)?;
+    unless(text_ok(record_bytes(r, 32, 32)), Reason::Text, 42)
 }
 
 // What validation says of an edit's record, where the file may grow.
-fn record_validity(f: &[u8], k: Kind, i: usize, j: usize, r: &[u8], edition: Edition) -> Validity
+fn record_validity(
+    f: &[u8],
+    k: Kind,
+    i: usize,
+    j: usize,
+    r: &[u8],
+    edition: Edition,
+) -> Result<(), Refusal>
     requires { (HasLayout f.now) × ((length r.now ≡ record_length k) × (place_ok k i j (codeplug_of f.now) ≡ true)) }
     ensures { (growth_rule k f.now then result) ≡ result_rule edition k i j r.now f.now }
 {
@@ -147,12 +146,12 @@ fn record_validity(f: &[u8], k: Kind, i: usize, j: usize, r: &[u8], edition: Edi
         Kind::RenameBank => name_bank(f, i, 0, r),
         Kind::InsertEntry => put_entry(f, i, j, r),
         Kind::SetHeader => set_header(r),
-        Kind::RemoveContact | Kind::RemoveChannel | Kind::RemoveBank | Kind::RemoveEntry =>
-            Validity::Valid,
+        Kind::RemoveContact | Kind::RemoveChannel | Kind::RemoveBank | Kind::RemoveEntry => Ok(()),
     }
 }
 
 // What reading the result of an edit gives, told without building it.
+#[tactic(auto, using(fields::proofs::Laws::ok_then, fields::proofs::Laws::err_then))]
 pub fn result_validity(
     f: &[u8],
     k: Kind,
@@ -160,11 +159,12 @@ pub fn result_validity(
     j: usize,
     r: &[u8],
     edition: Edition,
-) -> Validity
+) -> Result<(), Refusal>
     requires { (HasLayout f.now) × ((length r.now ≡ record_length k) × (place_ok k i j (codeplug_of f.now) ≡ true)) }
     ensures { result ≡ result_rule edition k i j r.now f.now }
 {
-    first(may_grow(f, k), record_validity(f, k, i, j, r, edition))
+    may_grow(f, k)?;
+    record_validity(f, k, i, j, r, edition)
 }
 
 // The length of the result, of an edit whose places are there.

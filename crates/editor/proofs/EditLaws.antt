@@ -10,10 +10,8 @@ use lib.Seq.{length-take-le}
 use lib.Dec.{leb}
 use borrow.Author.Tests.{le-leb, lt-leb, leb-true, eqb-true}
 use Rattle.fields.specs.Bytes.{part}
-use Rattle.fields.specs.Rule.{◌then◌, unless}
-use Rattle.fields.specs.declared.rule.Validity.{Validity}
-use Rattle.fields.specs.declared.rule.Validity.TheVariants.{Valid, Refused}
-use Rattle.fields.proofs.Laws.{AllBytes, bytes_take, then-valid, valid-then, then-refused, unless-valid, part-part, little_bytes-little}
+use Rattle.fields.specs.Rule.{◌then◌, unless, Validity, Valid, Refused}
+use Rattle.fields.proofs.Laws.{AllBytes, bytes_take, then-valid, valid-then, then-refused, err_then, unless-valid, part-part, little_bytes-little}
 use Rattle.m17.specs.declared.Edition.{Edition}
 use Rattle.file_rule.specs.File.{file_rule}
 use Rattle.file_rule.proofs.Laws.{file-valid}
@@ -23,10 +21,8 @@ use Rattle.journal.specs.History.{number_of_entries}
 use Rattle.journal.specs.Change.{entry_of}
 use Rattle.journal.specs.Machine.{State, holding, file_of, entry_list, history_of, buffers_rule, refused, done, new_entry, edit_rule, edit_outcome, edit_step}
 use Rattle.journal.specs.Span.{span_of, entry_from, Sound, span_size, recorded_in}
-use Rattle.journal.specs.declared.answer.Answer.TheVariants as answer
 use Rattle.journal.specs.declared.recording.Span.{Span}
 use Rattle.journal.specs.declared.scan.Run.{Run}
-use Rattle.journal.specs.declared.scan.HistoryRead.TheVariants as read
 use Rattle.journal.proofs.ChangeLaws.{tail-left, tail-right, length_taken}
 use Rattle.journal.proofs.RecordLaws.{span-size, span-entry, sound-entry_of, span-old}
 use Rattle.plan.specs.declared.Plan.{Plan}
@@ -35,8 +31,6 @@ use Rattle.plan.specs.Fits.{Fits}
 use Rattle.model.specs.Codeplug.{codeplug_of}
 use Rattle.model.specs.HasLayout.{HasLayout}
 use Rattle.model.specs.declared.Kind.{Kind}
-use Rattle.model.specs.declared.KindRead.{KindRead}
-use Rattle.model.specs.declared.KindRead.TheVariants.{Known, NoKind}
 use Rattle.model.specs.Kinds.{kind_of, record_length}
 use Rattle.model.specs.EditRules.{place_ok, count_ok}
 use Rattle.edits.specs.Result.{result}
@@ -46,6 +40,10 @@ use Rattle.edits.specs.Editing.{EditRequest, refuses_known, refuses_kind, refuse
 use Rattle.preconditions.specs.Calls.{state_of, outcome_of}
 use Rattle.editor.specs.Edit.{committed, known_rule, known_outcome, known_step}
 use Rattle.preconditions.proofs.PreconditionLaws.{preconditions-inside, preconditions-entries}
+use Rattle.std.specs.Prelude.{Ok, Err, Some, None, Option}
+use Rattle.format.specs.declared.refusals.Reason.TheVariants as reason
+use Rattle.journal.specs.Answer.{done_with}
+use Rattle.format.specs.declared.refusals.Refusal.{Refusal}
 
 -- ---- buffers that meet the preconditions
 
@@ -55,48 +53,48 @@ preconditions-file ed m e = (then-valid _ _ (then-valid _ _ e).1).0
 
 -- ---- the call's step, by its kind
 
-pub edit-refused : (ed : Edition) (a : EditRequest) (m : State) (n p : ℕ) (v : Validity) → v ≡ buffers_rule (editing ed) m → v ≡ Refused n p
-    → outcome_of (answer.Refused n p) m.room m.history ≡ edit_step (editing ed) a m
+pub edit-refused : (ed : Edition) (a : EditRequest) (m : State) (x : Refusal) (v : Validity) → v ≡ buffers_rule (editing ed) m → v ≡ Err x
+    → outcome_of (Err x) m.room m.history ≡ edit_step (editing ed) a m
 unfolding edit_step edit_rule edit_outcome refused
-edit-refused ed a m n p v e f = rw (sym e ∙ f, then-refused (Refused n p) _ n p refl)
+edit-refused ed a m x v e f = rw (sym e ∙ f, err_then x _)
 
 rule-holds : (ed : Edition) (a : EditRequest) (m : State) → buffers_rule (editing ed) m ≡ Valid
     → edit_rule (editing ed) a m
-    ≡ refuses ed a (length m.room) (file_of m) then unless (leb (entry_size (entry_of (file_of m) (applied a (file_of m)))) (length m.history)) 37 0
+    ≡ refuses ed a (length m.room) (file_of m) then unless (leb (entry_size (entry_of (file_of m) (applied a (file_of m)))) (length m.history)) reason.HistoryTooSmall 0
 unfolding edit_rule new_entry
 rule-holds ed a m e = valid-then _ _ e
 
-rule-no-kind : (ed : Edition) (a : EditRequest) (m : State) → buffers_rule (editing ed) m ≡ Valid → kind_of a.kind ≡ NoKind → edit_rule (editing ed) a m ≡ Refused 32 0
+rule-no-kind : (ed : Edition) (a : EditRequest) (m : State) → buffers_rule (editing ed) m ≡ Valid → kind_of a.kind ≡ None → edit_rule (editing ed) a m ≡ Refused reason.NoEdit 0
 unfolding refuses refuses_kind
-rule-no-kind ed a m e f = rule-holds ed a m e ∙ rw f (then-refused (Refused 32 0) _ 32 0 refl)
+rule-no-kind ed a m e f = rule-holds ed a m e ∙ rw f (then-refused (Refused reason.NoEdit 0) _ reason.NoEdit 0 refl)
 
-pub edit-no-kind : (ed : Edition) (a : EditRequest) (m : State) (k : KindRead) → buffers_rule (editing ed) m ≡ Valid → k ≡ kind_of a.kind → k ≡ NoKind
-    → outcome_of (answer.Refused 32 0) m.room m.history ≡ edit_step (editing ed) a m
+pub edit-no-kind : (ed : Edition) (a : EditRequest) (m : State) (k : Option Kind) → buffers_rule (editing ed) m ≡ Valid → k ≡ kind_of a.kind → k ≡ None
+    → outcome_of (Refused reason.NoEdit 0) m.room m.history ≡ edit_step (editing ed) a m
 unfolding edit_step edit_outcome refused
 edit-no-kind ed a m k e f g = rw (rule-no-kind ed a m e (sym f ∙ g))
 
-rule-known : (ed : Edition) (a : EditRequest) (m : State) (k : Kind) → buffers_rule (editing ed) m ≡ Valid → kind_of a.kind ≡ Known k
+rule-known : (ed : Edition) (a : EditRequest) (m : State) (k : Kind) → buffers_rule (editing ed) m ≡ Valid → kind_of a.kind ≡ Some k
     → edit_rule (editing ed) a m ≡ known_rule ed k a.first a.second a.bytes m
 unfolding refuses refuses_kind applied applied_kind known_rule
 rule-known ed a m k e f = rule-holds ed a m e ∙ rw f
 
-applied-known : (a : EditRequest) (k : Kind) (f : List ℕ) → kind_of a.kind ≡ Known k → applied a f ≡ result k a.first a.second a.bytes f
+applied-known : (a : EditRequest) (k : Kind) (f : List ℕ) → kind_of a.kind ≡ Some k → applied a f ≡ result k a.first a.second a.bytes f
 unfolding applied applied_kind
 applied-known a k f e = rw e
 
 -- both ways to tell the outcome agree
-outcome-known : (ed : Edition) (a : EditRequest) (m : State) (k : Kind) (v : Validity) (t : Entries) → kind_of a.kind ≡ Known k → history_of m ≡ t
+outcome-known : (ed : Edition) (a : EditRequest) (m : State) (k : Kind) (v : Validity) (t : Entries) → kind_of a.kind ≡ Some k → history_of m ≡ t
     → edit_outcome (editing ed) a m v (entry_list t) ≡ known_outcome v k a.first a.second a.bytes m
 unfolding edit_outcome known_outcome committed new_entry recorded_in recorded fitting_run entry_list
-outcome-known ed a m k (Refused n p) t f e = refl
-outcome-known ed a m k Valid (whole es) f e = rw (applied-known a k (file_of m) f, e)
-outcome-known ed a m k Valid broken f e = rw (applied-known a k (file_of m) f, e)
+outcome-known ed a m k (Err e') t f e = refl
+outcome-known ed a m k (Ok u) (whole es) f e = rw (applied-known a k (file_of m) f, e)
+outcome-known ed a m k (Ok u) broken f e = rw (applied-known a k (file_of m) f, e)
 
-pub edit-known : (ed : Edition) (a : EditRequest) (m : State) (k : Kind) (r : KindRead) → buffers_rule (editing ed) m ≡ Valid → r ≡ kind_of a.kind → r ≡ Known k
+pub edit-known : (ed : Edition) (a : EditRequest) (m : State) (k : Kind) (r : Option Kind) → buffers_rule (editing ed) m ≡ Valid → r ≡ kind_of a.kind → r ≡ Some k
     → known_step ed k a.first a.second a.bytes m ≡ edit_step (editing ed) a m
 unfolding edit_step known_step
 edit-known ed a m k r e f g =
-    let h : kind_of a.kind ≡ Known k = sym f ∙ g in
+    let h : kind_of a.kind ≡ Some k = sym f ∙ g in
     sym (rw (rule-known ed a m k e h) (outcome-known ed a m k (known_rule ed k a.first a.second a.bytes m) (history_of m) h refl))
 
 -- ---- a change recorded, then made
@@ -116,7 +114,7 @@ pub record Changes (d : List ℕ) (len : ℕ) (h : List ℕ) (used : ℕ) (g : L
   pub held : len ≤ length d
   pub short : len ≤ 1_048_576
   pub stored : used ≤ length h
-  pub unbroken : number_of_entries (entries_of (take used h)) ≡ read.Broken → ⊥
+  pub unbroken : number_of_entries (entries_of (take used h)) ≡ None → ⊥
   pub sound : Sound s
   pub inside : s.place + s.taken ≤ len
   pub new_is : len - s.taken + s.put ≡ length g
@@ -135,7 +133,7 @@ pub preconditions-short : (ed : Edition) (d : List ℕ) (len : ℕ) (h : List �
 preconditions-short ed d len h used fine = (file-valid ed (take len d) (preconditions-accepted ed d len h used fine)).short
 
 preconditions-unbroken : (ed : Edition) (d : List ℕ) (len : ℕ) (h : List ℕ) (used : ℕ) → buffers_rule (editing ed) (state_of d len h used) ≡ Valid
-    → number_of_entries (entries_of (take used h)) ≡ read.Broken
+    → number_of_entries (entries_of (take used h)) ≡ None
     → ⊥
 unfolding history_of
 preconditions-unbroken ed d len h used fine = preconditions-entries ed (state_of d len h used) fine
@@ -176,7 +174,7 @@ module _ (d : List ℕ) (len : ℕ) (h : List ℕ) (used : ℕ) (g : List ℕ) w
         bytes = length (history_bytes (recorded_in (length h) (entry_from s b) (entries_of (take used h))));
         entries = length (recorded_in (length h) (entry_from s b) (entries_of (take used h)));
       }
-      → outcome_of (answer.Done new run.bytes run.entries) d₁ h₁ ≡ committed g (state_of d len h used)
+      → outcome_of (done_with new run.bytes run.entries) d₁ h₁ ≡ committed g (state_of d len h used)
   unfolding committed done file_of history_of
   change-made s b d₁ h₁ new run c e n f i r =
       let k : entry_from s b ≡ entry_of (take len d) g = ap (λ (x : List ℕ). entry_from s x) e ∙ c.entry-is in
@@ -234,13 +232,13 @@ plans ed k i j r room f p h b m =
 
 module _ (ed : Edition) (k : Kind) (i j : ℕ) (r d : List ℕ) (len : ℕ) (h : List ℕ) (used : ℕ) (v : Validity)
     (e : v ≡ refuses_known ed k i j r (length d) (take len d)) where
-  pub known-refused : (n p : ℕ) → v ≡ Refused n p → outcome_of (answer.Refused n p) d h ≡ known_step ed k i j r (state_of d len h used)
+  pub known-refused : (x : Refusal) → v ≡ Err x → outcome_of (Err x) d h ≡ known_step ed k i j r (state_of d len h used)
   unfolding known_step known_rule known_outcome refused file_of
-  known-refused n p g = rw (sym e ∙ g, then-refused (Refused n p) _ n p refl)
+  known-refused x g = rw (sym e ∙ g, err_then x _)
 
   module _ (g : v ≡ Valid) (p : Plan) (is : planned p r (take len d) ≡ result k i j r (take len d)) (s : Span)
       (at : s ≡ span_of (entry_of (take len d) (planned p r (take len d)))) where
-    rule-37 : known_rule ed k i j r (state_of d len h used) ≡ unless (leb (span_size s) (length h)) 37 0
+    rule-37 : known_rule ed k i j r (state_of d len h used) ≡ unless (leb (span_size s) (length h)) reason.HistoryTooSmall 0
     unfolding known_rule file_of
     rule-37 =
         let n : span_size s ≡ entry_size (entry_of (take len d) (result k i j r (take len d))) =
@@ -248,7 +246,7 @@ module _ (ed : Edition) (k : Kind) (i j : ℕ) (r d : List ℕ) (len : ℕ) (h :
         in
         valid-then _ _ (sym e ∙ g) ∙ rw n
 
-    pub known-full : length h < span_size s → outcome_of (answer.Refused 37 0) d h ≡ known_step ed k i j r (state_of d len h used)
+    pub known-full : length h < span_size s → outcome_of (Refused reason.HistoryTooSmall 0) d h ≡ known_step ed k i j r (state_of d len h used)
     unfolding known_step known_outcome refused unless
     known-full q = rw (rule-37, lt-leb (span_size s) (length h) q)
 

@@ -1,8 +1,6 @@
 -- The steps of an edit. No promise to a caller rests on these: `edit` is told by `edit_step` alone.
-use Rattle.std.specs.Prelude.{ℕ, ◌≤◌, ◌≡◌, List, length, take}
-use Rattle.fields.specs.Rule.{◌then◌}
-use Rattle.fields.specs.declared.rule.Validity.{Validity}
-use Rattle.fields.specs.declared.rule.Validity.TheVariants.{Valid, Refused}
+use Rattle.std.specs.Prelude.{ℕ, ◌≤◌, ◌≡◌, List, length, take, Ok, Err}
+use Rattle.fields.specs.Rule.{◌then◌, Validity, Valid}
 use Rattle.m17.specs.declared.Edition.{Edition}
 use Rattle.journal.specs.Entry.{alone_rule}
 use Rattle.journal.specs.Change.{entry_of}
@@ -36,8 +34,8 @@ known_rule e k i j r m =
     then alone_rule (entry_of (file_of m) (result k i j r (file_of m))) (length m.history)
 
 unfoldable pub known_outcome : Validity → Kind → ℕ → ℕ → List ℕ → State → Outcome
-known_outcome Valid k i j r m = committed (result k i j r (file_of m)) m
-known_outcome (Refused n p) k i j r m = refused n p m
+known_outcome (Ok u) k i j r m = committed (result k i j r (file_of m)) m
+known_outcome (Err e) k i j r m = refused e.reason e.place m
 
 unfoldable pub known_step : Edition → Kind → ℕ → ℕ → List ℕ → State → Outcome
 known_step e k i j r m = known_outcome (known_rule e k i j r m) k i j r m

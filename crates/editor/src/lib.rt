@@ -2,7 +2,7 @@
 #![tactic(auto)]
 
 ghost use Rattle.std.specs.Prelude.{◌≡◌, take};
-ghost use Rattle.fields.specs.declared.rule.Validity.TheVariants.{Valid};
+ghost use Rattle.fields.specs.Rule.{Valid};
 ghost use Rattle.journal.specs.Machine.{buffers_rule, edit_step};
 ghost use Rattle.plan.specs.Plan.{planned};
 ghost use Rattle.edits.specs.Editing.{editing};
@@ -11,12 +11,12 @@ ghost use Rattle.editor.specs.Edit.{Committable, committed, known_step};
 
 use edit_check::refusal::refusal;
 use edit_plan::plan_of;
-use fields::rule::Validity;
-use format::refusals::{HISTORY_TOO_SMALL, NO_EDIT};
-use journal::answer::Answer;
+use fields::rule::unless;
+use format::refusals::{Reason, Refusal};
+use journal::answer::Done;
 use journal::recording::{Span, entry_size, record_entry};
 use m17::Edition;
-use model::{Kind, KindRead, kind_of};
+use model::{Kind, kind_of};
 use plan::Plan;
 use plan_apply::make;
 use plan_span::span;
@@ -31,7 +31,7 @@ fn commit(
     plan: Plan,
     s: Span,
     bytes: &[u8],
-) -> Answer
+) -> Result<Done, Refusal>
     requires { Committable room.old len history.old used plan s bytes.now }
     ensures { outcome_of result room.new history.new
         ≡ committed (planned plan bytes.now (take len room.old)) (state_of room.old len history.old used) }
@@ -41,7 +41,11 @@ fn commit(
     let new = len - taken + s.put;
     let run = record_entry(history, used, s, &room[from..from + taken]);
     make(room, len, plan, bytes);
-    Answer::Done(new, run.bytes, run.entries)
+    Ok(Done {
+        len: new,
+        used: run.bytes,
+        entries: run.entries,
+    })
 }
 
 // An edit of a known kind.
@@ -55,19 +59,15 @@ fn edit_known(
     j: usize,
     bytes: &[u8],
     edition: Edition,
-) -> Answer
+) -> Result<Done, Refusal>
     requires { buffers_rule (editing edition) (state_of room.old len history.old used) ≡ Valid }
     ensures { outcome_of result room.new history.new ≡ known_step edition k i j bytes.now (state_of room.old len history.old used) }
 {
     let size = room.len();
-    if let Validity::Refused(n, p) = refusal(&room[..len], size, k, i, j, bytes, edition) {
-        return Answer::Refused(n, p);
-    }
+    refusal(&room[..len], size, k, i, j, bytes, edition)?;
     let plan = plan_of(&room[..len], k, i, j);
     let s = span(&room[..len], plan, bytes);
-    if history.len() < entry_size(s) {
-        return Answer::Refused(HISTORY_TOO_SMALL, 0);
-    }
+    unless(entry_size(s) <= history.len(), Reason::HistoryTooSmall, 0)?;
     commit(room, len, history, used, plan, s, bytes)
 }
 
@@ -82,17 +82,14 @@ pub fn edit(
     second: usize,
     bytes: &[u8],
     edition: Edition,
-) -> Answer
+) -> Result<Done, Refusal>
     ensures { outcome_of result room.new history.new ≡ edit_step (editing edition)
         (edit_request kind first second bytes.now) (state_of room.old len history.old used) }
 {
-    if let Validity::Refused(n, p) = check(room, len, history, used, edition) {
-        return Answer::Refused(n, p);
-    }
-    match kind_of(kind) {
-        KindRead::NoKind => Answer::Refused(NO_EDIT, 0),
-        KindRead::Known(k) => edit_known(
-            room, len, history, used, k, first, second, bytes, edition,
-        ),
-    }
+    check(room, len, history, used, edition)?;
+    let k = kind_of(kind).ok_or(Refusal {
+        reason: Reason::NoEdit,
+        place: 0,
+    })?;
+    edit_known(room, len, history, used, k, first, second, bytes, edition)
 }

@@ -11,16 +11,12 @@ use lib.Dec.{leb, ltb, eqb}
 use borrow.Author.Tests.{ltb-true, leb-true}
 use Rattle.fields.specs.Bytes.{part}
 use Rattle.text.specs.Text.{text_ok}
-use Rattle.fields.specs.Rule.{◌then◌, unless}
-use Rattle.fields.specs.declared.rule.Validity.{Validity}
-use Rattle.fields.specs.declared.rule.Validity.TheVariants.{Valid}
+use Rattle.fields.specs.Rule.{◌then◌, unless, Validity, Valid}
 use Rattle.fields.proofs.Laws.{get_d_part, part-inside, then-valid, both-valid, unless-valid, AllBytes}
 use Rattle.m17.specs.declared.Edition.{Edition}
 use Rattle.contact.specs.Contact.{contact_rule}
 use Rattle.contact.proofs.Laws.{ValidInfo, contact-valid, dmr-passes, m17-passes}
 use Rattle.channel.specs.Rule.{channel_rule, named_contact}
-use Rattle.channel.specs.declared.ContactIndex.{ContactIndex}
-use Rattle.channel.specs.declared.ContactIndex.TheVariants.{Nobody, Index}
 use Rattle.channel.proofs.Laws.{ValidChannel, by_mode, valid-named, valid-channel, valid-length, channel-valid-by, fm-names-none}
 use Rattle.layout.specs.Places.{contact_count, channel_count, contact_place, channel_place, offset_place}
 use Rattle.layout.specs.Header.{identity_rule}
@@ -32,12 +28,14 @@ use Rattle.model.specs.HasLayout.{HasLayout}
 use Rattle.model.proofs.FileOf.{file-of-codeplug, table-inside, channels-start, offsets-start}
 use Rattle.model.proofs.Shape.{Shaped, channels_start, banks_start, contact-count, contact-part, shaped_of}
 use Rattle.model.proofs.Validated.{each_of, each_of-same, banks_ok, BankValid, banks_ok-valid, contacts-validated, channels-validated, offsets-valid, banks-validated, header-validated}
+use Rattle.std.specs.Prelude.{Some, None, Option}
+use Rattle.format.specs.declared.refusals.Reason.TheVariants as reason
 
 -- ---- the contact that a channel names, in the list of contacts
 
-unfoldable pub names_in : List (List ℕ) → ℕ → ContactIndex → Bool
-names_in l mode Nobody = true
-names_in l mode (Index i) = ltb i (length l) && eqb (get_or (get_or l i []) 32 0) mode
+unfoldable pub names_in : List (List ℕ) → ℕ → Option ℕ → Bool
+names_in l mode None = true
+names_in l mode (Some i) = ltb i (length l) && eqb (get_or (get_or l i []) 32 0) mode
 
 unfoldable pub channel_in : List (List ℕ) → List ℕ → ℕ → Validity
 channel_in l s p = channel_rule s p (names_in l (get_or s 0 0) (named_contact s))
@@ -48,10 +46,10 @@ module _ (c : Codeplug) (h : Shaped c) where
   mode-at i g =
       sym (get_d_part (codeplug_bytes c) (contact_place i) 39 32 (omega arith)) ∙ ap (λ (s : List ℕ). get_or s 32 0) (contact-part c h i g)
 
-  names-are : (mode : ℕ) (x : ContactIndex) → names_contact (codeplug_bytes c) mode x ≡ names_in c.contacts mode x
+  names-are : (mode : ℕ) (x : Option ℕ) → names_contact (codeplug_bytes c) mode x ≡ names_in c.contacts mode x
   unfolding names_contact names_in
-  names-are mode Nobody = refl
-  names-are mode (Index i) = rw (contact-count c h) (by (ltb i (length c.contacts)) refl)
+  names-are mode None = refl
+  names-are mode (Some i) = rw (contact-count c h) (by (ltb i (length c.contacts)) refl)
     where
       by : (t : Bool) → ltb i (length c.contacts) ≡ t
           → (t && eqb (get_or (codeplug_bytes c) (contact_place i + 32) 0) mode) ≡ (t && eqb (get_or (get_or c.contacts i []) 32 0) mode)
@@ -75,7 +73,7 @@ module _ (c : Codeplug) (h : Shaped c) where
 
   -- reading the file of a shaped codeplug
   pub file-validated : (ed : Edition) → file_rule ed (codeplug_bytes c)
-      ≡ unless (leb (length (codeplug_bytes c)) 1_048_576) 1 0
+      ≡ unless (leb (length (codeplug_bytes c)) 1_048_576) reason.TooLong 0
       then identity_rule c.preamble
       then each_of (contact_rule ed) 39 88 c.contacts
       then each_of (channel_in c.contacts) 90 (channels_start c) c.channels
@@ -167,7 +165,7 @@ accepted-by ed c h g =
     let e = then-valid _ _ d.1 in
     record {
       shaped = h;
-      short = leb-true (length (codeplug_bytes c)) 1_048_576 (unless-valid (leb (length (codeplug_bytes c)) 1_048_576) 1 0 a.0);
+      short = leb-true (length (codeplug_bytes c)) 1_048_576 (unless-valid (leb (length (codeplug_bytes c)) 1_048_576) reason.TooLong 0 a.0);
       preamble = b.0;
       contacts = every-of-run (contact_rule ed) (ContactValid ed) (contact-is-valid ed) 39 88 c.contacts d.0;
       channels =

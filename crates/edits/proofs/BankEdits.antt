@@ -8,8 +8,7 @@ use lib.ListN.{length, take, drop, get_or, length-append}
 use lib.Seq.{drop-cons}
 use lib.Dec.{leb}
 use borrow.Author.Tests.{le-leb}
-use Rattle.fields.specs.Rule.{◌then◌, unless}
-use Rattle.fields.specs.declared.rule.Validity.TheVariants.{Valid}
+use Rattle.fields.specs.Rule.{◌then◌, unless, Valid}
 use Rattle.fields.proofs.Laws.{then-of-valid, unless-passes}
 use Rattle.m17.specs.declared.Edition.{Edition}
 use Rattle.layout.specs.Banks.{bank_place}
@@ -21,6 +20,7 @@ use Rattle.model.proofs.Shape.{BankShaped, Shaped, table_start, length-codeplug,
 use Rattle.model.proofs.Validated.{bank_ok, banks_ok, BankValid, banks_ok-append, banks_ok-passes}
 use Rattle.edits.proofs.AcceptedCodeplug.{AcceptedCodeplug, file-validated, contacts-pass, channels-pass}
 use Rattle.edits.proofs.ListEdits.{length-insert, length-remove, length-replace, every-insert, every-remove, every-replace}
+use Rattle.format.specs.declared.refusals.Reason.TheVariants as reason
 
 -- ---- the bytes of banks
 
@@ -121,7 +121,7 @@ module _ (ed : Edition) (c : Codeplug) (a : AcceptedCodeplug ed c) where
 
       -- after the length only the banks can refuse
       banks-result : file_rule ed (codeplug_bytes (with_banks l c))
-          ≡ unless (leb (length (codeplug_bytes (with_banks l c))) 1_048_576) 1 0
+          ≡ unless (leb (length (codeplug_bytes (with_banks l c))) 1_048_576) reason.TooLong 0
           then banks_ok (length c.channels) (table_start c + length l * 4) l
       unfolding with_banks ◌then◌
       banks-result =
@@ -134,7 +134,7 @@ module _ (ed : Edition) (c : Codeplug) (a : AcceptedCodeplug ed c) where
       unfolding ◌then◌
       banks-result-short s =
           banks-result
-          ∙ rw (unless-passes (leb (length (codeplug_bytes (with_banks l c))) 1_048_576) 1 0
+          ∙ rw (unless-passes (leb (length (codeplug_bytes (with_banks l c))) 1_048_576) reason.TooLong 0
           (le-leb (length (codeplug_bytes (with_banks l c))) 1_048_576 (omega (arith, a.short))))
 
   -- ---- bank i removed
@@ -192,7 +192,7 @@ module _ (ed : Edition) (c : Codeplug) (a : AcceptedCodeplug ed c) where
         replace-ok n (table_start c + length (replace_at i b l) * 4) i b l a.banks ∙ ap (λ (p : ℕ). bank_ok n p b) e
 
     pub replace-bank-validated : file_rule ed (codeplug_bytes (with_banks (replace_at i b c.banks) c))
-        ≡ unless (leb (length (codeplug_bytes (with_banks (replace_at i b c.banks) c))) 1_048_576) 1 0
+        ≡ unless (leb (length (codeplug_bytes (with_banks (replace_at i b c.banks) c))) 1_048_576) reason.TooLong 0
         then bank_ok (length c.channels) (bank_place (codeplug_bytes c) i) b
     replace-bank-validated = banks-result (replace_at i b c.banks) shaped-replace-bank ∙ rw replaced-validated
 
@@ -223,7 +223,7 @@ module _ (ed : Edition) (c : Codeplug) (a : AcceptedCodeplug ed c) where
         )
 
     pub insert-bank-validated : file_rule ed (codeplug_bytes (with_banks (insert_at i b c.banks) c))
-        ≡ unless (leb (length (codeplug_bytes c) + (4 + length (bank_bytes b))) 1_048_576) 1 0
+        ≡ unless (leb (length (codeplug_bytes c) + (4 + length (bank_bytes b))) 1_048_576) reason.TooLong 0
         then bank_ok (length c.channels) (bank_place (codeplug_bytes c) i + 4) b
     insert-bank-validated =
         let l = c.banks in

@@ -8,8 +8,7 @@ use lib.Seq.{length-take-le}
 use lib.Dec.{ltb}
 use Rattle.fields.specs.Bytes.{little}
 use Rattle.text.specs.Text.{text_ok}
-use Rattle.fields.specs.Rule.{◌then◌, unless}
-use Rattle.fields.specs.declared.rule.Validity.TheVariants.{Valid}
+use Rattle.fields.specs.Rule.{◌then◌, unless, Valid}
 use Rattle.fields.proofs.Laws.{then-of-valid, unless-passes, AllBytes, little-lt}
 use Rattle.m17.specs.declared.Edition.{Edition}
 use Rattle.layout.specs.Banks.{bank_place}
@@ -24,6 +23,7 @@ use Rattle.edits.specs.ResultValidity.{may_grow}
 use Rattle.edits.proofs.AcceptedCodeplug.{AcceptedCodeplug}
 use Rattle.edits.proofs.ListEdits.{length-insert, length-remove, change-is, every-insert, every-remove}
 use Rattle.edits.proofs.BankEdits.{no_bank, shaped-replace-bank, length-replace-bank, replace-bank-validated, replace-bank-short, shaped-insert-bank, insert-bank-validated}
+use Rattle.format.specs.declared.refusals.Reason.TheVariants as reason
 
 -- how many entries bank i has
 pub entries-in : (i : ℕ) (l : List Bank) → entries_in i l ≡ length (get_or l i no_bank).entries
@@ -34,7 +34,7 @@ entries-in (suc i) (b ∷ l) = entries-in i l
 
 -- one entry among valid ones
 one_entry : (n p j v : ℕ) (l : List ℕ) → j ≤ length l → Every (λ x. x < n) l
-    → entries_of n p (insert_at j v l) ≡ unless (ltb v n) 11 (p + j * 2)
+    → entries_of n p (insert_at j v l) ≡ unless (ltb v n) reason.BankEntry (p + j * 2)
 unfolding insert_at ◌then◌ entries_of
 one_entry n p j v l h g =
     let e : p + length (take j l) * 2 ≡ p + j * 2 = omega (arith, length-take-le j l h) in
@@ -44,7 +44,7 @@ one_entry n p j v l h g =
       e,
       entries_of-passes n (p + j * 2 + 2) (drop j l) (every_drop (λ x. x < n) j l g),
     )
-    (then-of-valid (unless (ltb v n) 11 (p + j * 2)))
+    (then-of-valid (unless (ltb v n) reason.BankEntry (p + j * 2)))
 
 module _ (ed : Edition) (c : Codeplug) (a : AcceptedCodeplug ed c) where
   -- ---- 7
@@ -57,14 +57,14 @@ module _ (ed : Edition) (c : Codeplug) (a : AcceptedCodeplug ed c) where
     shaped-insert = shaped-insert-bank ed c a i (record { name = r; entries = [] }) g m empty-shaped
 
     pub insert-bank-is : file_rule ed (codeplug_bytes (with_banks (insert_at i (record { name = r; entries = [] }) c.banks) c))
-        ≡ may_grow 38 (codeplug_bytes c) then unless (text_ok r) 5 (bank_place (codeplug_bytes c) i + 4)
+        ≡ may_grow 38 (codeplug_bytes c) then unless (text_ok r) reason.Text (bank_place (codeplug_bytes c) i + 4)
     unfolding may_grow bank_ok entries_of
     insert-bank-is =
         let e : 4 + length (bank_bytes (record { name = r; entries = [] })) ≡ 38 =
         omega (arith, length-bank_bytes (record { name = r; entries = [] }) w)
         in
         insert-bank-validated ed c a i (record { name = r; entries = [] }) g m empty-shaped
-        ∙ rw (e, then-of-valid (unless (text_ok r) 5 (bank_place (codeplug_bytes c) i + 4)))
+        ∙ rw (e, then-of-valid (unless (text_ok r) reason.Text (bank_place (codeplug_bytes c) i + 4)))
 
   module _ (i : ℕ) (g : i < length c.banks) where
     -- bank i
@@ -88,15 +88,15 @@ module _ (ed : Edition) (c : Codeplug) (a : AcceptedCodeplug ed c) where
       unfolding renamed
       named-length = length-bank_bytes (renamed r old) w ∙ sym (length-bank_bytes old old-shaped.wide)
 
-      named_ok : (n p : ℕ) → BankValid n old → bank_ok n p (renamed r old) ≡ unless (text_ok r) 5 p
+      named_ok : (n p : ℕ) → BankValid n old → bank_ok n p (renamed r old) ≡ unless (text_ok r) reason.Text p
       unfolding renamed bank_ok
-      named_ok n p h = rw (entries_of-passes n (p + 34) old.entries h.below) (then-of-valid (unless (text_ok r) 5 p))
+      named_ok n p h = rw (entries_of-passes n (p + 34) old.entries h.below) (then-of-valid (unless (text_ok r) reason.Text p))
 
       pub shaped-rename : Shaped (with_banks (change_at i (renamed r) c.banks) c)
       shaped-rename = rw (change-is i (renamed r) c.banks no_bank g) (shaped-replace-bank ed c a i (renamed r old) g named-shaped)
 
       pub rename-bank-is : file_rule ed (codeplug_bytes (with_banks (change_at i (renamed r) c.banks) c))
-          ≡ unless (text_ok r) 5 (bank_place (codeplug_bytes c) i)
+          ≡ unless (text_ok r) reason.Text (bank_place (codeplug_bytes c) i)
       rename-bank-is =
           rw (change-is i (renamed r) c.banks no_bank g)
           (replace-bank-short ed c a i (renamed r old) g named-shaped (omega (arith, named-length))
@@ -135,17 +135,17 @@ module _ (ed : Edition) (c : Codeplug) (a : AcceptedCodeplug ed c) where
               length-insert j (little r) old.entries in-old,
             )
 
-        fuller-ok : (n p : ℕ) → BankValid n old → bank_ok n p fuller ≡ unless (ltb (little r) n) 11 (p + 34 + j * 2)
+        fuller-ok : (n p : ℕ) → BankValid n old → bank_ok n p fuller ≡ unless (ltb (little r) n) reason.BankEntry (p + 34 + j * 2)
         unfolding with_entries bank_ok ◌then◌
         fuller-ok n p h =
-            rw (unless-passes (text_ok old.name) 5 p h.text) (one_entry n (p + 34) j (little r) old.entries in-old h.below)
+            rw (unless-passes (text_ok old.name) reason.Text p h.text) (one_entry n (p + 34) j (little r) old.entries in-old h.below)
 
         pub shaped-insert-entry : Shaped (with_banks (change_at i (with_entries (insert_at j (little r))) c.banks) c)
         shaped-insert-entry =
             rw (change-is i (with_entries (insert_at j (little r))) c.banks no_bank g) (shaped-replace-bank ed c a i fuller g fuller-shaped)
 
         pub insert-entry-is : file_rule ed (codeplug_bytes (with_banks (change_at i (with_entries (insert_at j (little r))) c.banks) c))
-            ≡ may_grow 2 (codeplug_bytes c) then unless (ltb (little r) (length c.channels)) 11 (bank_place (codeplug_bytes c) i + 34 + j * 2)
+            ≡ may_grow 2 (codeplug_bytes c) then unless (ltb (little r) (length c.channels)) reason.BankEntry (bank_place (codeplug_bytes c) i + 34 + j * 2)
         unfolding may_grow
         insert-entry-is =
             let e : length (codeplug_bytes (with_banks (replace_at i fuller c.banks) c)) ≡ length (codeplug_bytes c) + 2 =

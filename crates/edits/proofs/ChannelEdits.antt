@@ -9,9 +9,7 @@ use lib.ListN.{length, take, drop, length-map}
 use lib.Seq.{length-take-le}
 use lib.Dec.{leb}
 use borrow.Author.Tests.{le-leb}
-use Rattle.fields.specs.Rule.{◌then◌, unless}
-use Rattle.fields.specs.declared.rule.Validity.{Validity}
-use Rattle.fields.specs.declared.rule.Validity.TheVariants.{Valid}
+use Rattle.fields.specs.Rule.{◌then◌, unless, Validity, Valid}
 use Rattle.fields.proofs.Laws.{then-of-valid, unless-passes, AllBytes}
 use Rattle.m17.specs.declared.Edition.{Edition}
 use Rattle.channel.specs.Rule.{channel_rule}
@@ -28,6 +26,7 @@ use Rattle.edits.proofs.AcceptedCodeplug.{channel_in, index_ok_lem, file-validat
 use Rattle.edits.proofs.ListEdits.{length-insert, length-remove, length-replace, every-insert, every-remove, every-replace, every-both}
 use Rattle.edits.proofs.Moves.{raised-le, lowered-below, none-holds}
 use Rattle.edits.proofs.BankEdits.{length-cons}
+use Rattle.format.specs.declared.refusals.Reason.TheVariants as reason
 
 -- ---- one record among valid ones
 
@@ -119,7 +118,7 @@ module _ (ed : Edition) (c : Codeplug) (a : AcceptedCodeplug ed c) where
 
       -- after the length only the channels can refuse
       both-result : Every (BankValid (length l)) m → file_rule ed (codeplug_bytes (with_channels l (with_banks m c)))
-          ≡ unless (leb (length (codeplug_bytes (with_channels l (with_banks m c)))) 1_048_576) 1 0
+          ≡ unless (leb (length (codeplug_bytes (with_channels l (with_banks m c)))) 1_048_576) reason.TooLong 0
           then each_of (channel_in c.contacts) 90 (channels_start c) l
       unfolding with_channels with_banks ◌then◌
       both-result g =
@@ -137,7 +136,7 @@ module _ (ed : Edition) (c : Codeplug) (a : AcceptedCodeplug ed c) where
       unfolding ◌then◌
       both-result-short g s =
           both-result g
-          ∙ rw (unless-passes (leb (length (codeplug_bytes (with_channels l (with_banks m c)))) 1_048_576) 1 0
+          ∙ rw (unless-passes (leb (length (codeplug_bytes (with_channels l (with_banks m c)))) 1_048_576) reason.TooLong 0
           (le-leb (length (codeplug_bytes (with_channels l (with_banks m c)))) 1_048_576 (omega (arith, a.short))))
 
   -- the new channel, where it stands

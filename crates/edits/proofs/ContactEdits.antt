@@ -8,15 +8,11 @@ use native.Mathlib.Omega.{arith}
 use lib.ListN.{length, get_or, length-map}
 use lib.Dec.{leb, ltb, eqb}
 use borrow.Author.Tests.{le-leb, eqb-true, eqb-false, eq-eqb, ne_eqb, lt-ltb}
-use Rattle.fields.specs.Rule.{◌then◌, unless, each}
-use Rattle.fields.specs.declared.rule.Validity.{Validity}
-use Rattle.fields.specs.declared.rule.Validity.TheVariants.{Valid}
+use Rattle.fields.specs.Rule.{◌then◌, unless, each, Validity, Valid}
 use Rattle.fields.proofs.Laws.{then-of-valid, unless-passes, AllBytes}
 use Rattle.m17.specs.declared.Edition.{Edition}
 use Rattle.contact.specs.Contact.{contact_rule}
 use Rattle.channel.specs.Rule.{named_contact}
-use Rattle.channel.specs.declared.ContactIndex.{ContactIndex}
-use Rattle.channel.specs.declared.ContactIndex.TheVariants.{Nobody, Index}
 use Rattle.layout.specs.Places.{channel_count, contact_place, channel_place}
 use Rattle.file_rule.specs.File.{file_rule}
 use Rattle.model.specs.Codeplug.{Codeplug, codeplug_bytes}
@@ -32,6 +28,8 @@ use Rattle.edits.proofs.ListEdits.{get_or-insert-before, get_or-insert-after, ge
 use Rattle.edits.proofs.Moves.{raised-before, raised-after, raised-none, lowered-before, lowered-after, lowered_none, by_place, neither}
 use Rattle.edits.proofs.ChannelEdits.{insert-record, replace-record}
 use Rattle.edits.proofs.MovedChannel.{SameContact, channel-moves, moved-wide, moved-bytes, channel-unless}
+use Rattle.std.specs.Prelude.{Some, None, Option}
+use Rattle.format.specs.declared.refusals.Reason.TheVariants as reason
 
 -- ---- runs of rules that agree at each record
 
@@ -50,11 +48,11 @@ eqb-sym a b = by (eqb b a) refl
     by true e = eq-eqb a b (sym (eqb-true b a e))
     by false e = ne_eqb a b (λ d. eqb-false b a e (sym d))
 
-names-replaced : (l : List (List ℕ)) (i : ℕ) (r : List ℕ) → i < length l → (mode : ℕ) (x : ContactIndex) → names_in l mode x ≡ true
+names-replaced : (l : List (List ℕ)) (i : ℕ) (r : List ℕ) → i < length l → (mode : ℕ) (x : Option ℕ) → names_in l mode x ≡ true
     → names_in (replace_at i r l) mode x ≡ (not (is_index i x) || eqb mode (get_or r 32 0))
 unfolding names_in is_index
-names-replaced l i r g mode Nobody h = refl
-names-replaced l i r g mode (Index x) h = by (eqb x i) refl
+names-replaced l i r g mode None h = refl
+names-replaced l i r g mode (Some x) h = by (eqb x i) refl
   where
     by : (t : Bool) → eqb x i ≡ t
         → (ltb x (length (replace_at i r l)) && eqb (get_or (get_or (replace_at i r l) x []) 32 0) mode) ≡ (not t || eqb mode (get_or r 32 0))
@@ -103,7 +101,7 @@ module _ (ed : Edition) (c : Codeplug) (a : AcceptedCodeplug ed c) where
 
       -- after the length only contacts and channels can refuse
       both-result : file_rule ed (codeplug_bytes (with_contacts l (with_channels m c)))
-          ≡ unless (leb (length (codeplug_bytes (with_contacts l (with_channels m c)))) 1_048_576) 1 0
+          ≡ unless (leb (length (codeplug_bytes (with_contacts l (with_channels m c)))) 1_048_576) reason.TooLong 0
           then each_of (contact_rule ed) 39 88 l
           then each_of (channel_in l) 90 (88 + length l * 39) m
       unfolding with_contacts with_channels ◌then◌
@@ -121,7 +119,7 @@ module _ (ed : Edition) (c : Codeplug) (a : AcceptedCodeplug ed c) where
       unfolding ◌then◌
       both-result-short s =
           both-result
-          ∙ rw (unless-passes (leb (length (codeplug_bytes (with_contacts l (with_channels m c)))) 1_048_576) 1 0
+          ∙ rw (unless-passes (leb (length (codeplug_bytes (with_contacts l (with_channels m c)))) 1_048_576) reason.TooLong 0
           (le-leb (length (codeplug_bytes (with_contacts l (with_channels m c)))) 1_048_576 (omega (arith, a.short, both-length))))
 
   new-contact : (i : ℕ) (r : List ℕ) → contact_rule ed r (88 + i * 39) ≡ contact_rule ed r (contact_place i)
@@ -132,7 +130,7 @@ module _ (ed : Edition) (c : Codeplug) (a : AcceptedCodeplug ed c) where
 
   module _ (i : ℕ) (r : List ℕ) (g : i < length c.contacts) (w : length r ≡ 39) (b : AllBytes r) where
     abbrev keep_rule : List ℕ → ℕ → Validity
-    keep_rule s p = unless (not (is_index i (named_contact s)) || eqb (get_or s 0 0) (get_or r 32 0)) 9 (index_place s p)
+    keep_rule s p = unless (not (is_index i (named_contact s)) || eqb (get_or s 0 0) (get_or r 32 0)) reason.ContactIndex (index_place s p)
 
     keeps-or-not : (s : List ℕ) (p : ℕ) → ChannelValid c.contacts s → channel_in (replace_at i r c.contacts) s p ≡ keep_rule s p
     unfolding channel_in index_place
@@ -174,7 +172,7 @@ module _ (ed : Edition) (c : Codeplug) (a : AcceptedCodeplug ed c) where
   -- ---- channels whose contact index moves
 
   module _ (k : List (List ℕ)) (move : ℕ → ℕ) (none : move 65535 ≡ 65535) (fits : length k ≤ 65535) (Q : List ℕ → Type 0)
-      (f : (s : List ℕ) (x : ℕ) → Q s → named_contact s ≡ Index x → x < length c.contacts → SameContact c.contacts k move x)
+      (f : (s : List ℕ) (x : ℕ) → Q s → named_contact s ≡ Some x → x < length c.contacts → SameContact c.contacts k move x)
     where
       moved-channels : Every Q c.channels → Every (ChannelValid k) (map (move_contact move) c.channels)
       moved-channels q =

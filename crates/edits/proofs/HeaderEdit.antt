@@ -11,8 +11,7 @@ use lib.Dec.{leb, eqb}
 use borrow.Author.Tests.{le-leb}
 use Rattle.fields.specs.Bytes.{part, num}
 use Rattle.text.specs.Text.{text_ok}
-use Rattle.fields.specs.Rule.{◌then◌, unless}
-use Rattle.fields.specs.declared.rule.Validity.TheVariants.{Valid}
+use Rattle.fields.specs.Rule.{◌then◌, unless, Valid}
 use Rattle.fields.proofs.Laws.{part_left, part_right, part-part, then-valid, then-of-valid, unless-passes, field-valid, field-inside, field-passes, AllBytes, bytes-append, bytes_take}
 use Rattle.m17.specs.declared.Edition.{Edition}
 use Rattle.layout.specs.Header.{identity_rule}
@@ -22,6 +21,7 @@ use Rattle.model.specs.Edits.{with_preamble}
 use Rattle.model.proofs.Shape.{Shaped, length-codeplug}
 use Rattle.edits.proofs.AcceptedCodeplug.{AcceptedCodeplug, file-validated, contacts-pass, channels-pass}
 use Rattle.model.proofs.Validated.{banks_ok-passes}
+use Rattle.format.specs.declared.refusals.Reason.TheVariants as reason
 
 -- the first ten bytes are kept
 abbrev new_preamble : List ℕ → List ℕ → List ℕ
@@ -46,7 +46,7 @@ module _ (t r : List ℕ) (h : length t ≡ 82) (g : length r ≡ 72) where
       rw d (part_right (take 10 t) r k n)
 
   pub preamble-validated : identity_rule t ≡ Valid
-      → identity_rule (new_preamble t r) ≡ unless (text_ok (part r 0 32)) 5 10 then unless (text_ok (part r 32 32)) 5 42
+      → identity_rule (new_preamble t r) ≡ unless (text_ok (part r 0 32)) reason.Text 10 then unless (text_ok (part r 32 32)) reason.Text 42
   unfolding identity_rule ◌then◌
   preamble-validated e =
       let a = then-valid _ _ e in
@@ -59,10 +59,10 @@ module _ (t r : List ℕ) (h : length t ≡ 82) (g : length r ≡ 72) where
         kept 8 2 (omega arith),
         new 0 32 10 refl,
         new 32 32 42 refl,
-        field-passes (length (new_preamble t r)) 0 0 8 3 (eqb (num t 0 8) 0x43585452) (omega arith) magic,
-        field-passes (length (new_preamble t r)) 0 8 2 4 (eqb (num t 8 2) 1) (omega arith) version,
-        field-inside (length (new_preamble t r)) 0 10 32 5 (text_ok (part r 0 32)) (omega arith),
-        field-inside (length (new_preamble t r)) 0 42 32 5 (text_ok (part r 32 32)) (omega arith),
+        field-passes (length (new_preamble t r)) 0 0 8 reason.Magic (eqb (num t 0 8) 0x43585452) (omega arith) magic,
+        field-passes (length (new_preamble t r)) 0 8 2 reason.Version (eqb (num t 8 2) 1) (omega arith) version,
+        field-inside (length (new_preamble t r)) 0 10 32 reason.Text (text_ok (part r 0 32)) (omega arith),
+        field-inside (length (new_preamble t r)) 0 42 32 reason.Text (text_ok (part r 32 32)) (omega arith),
       )
 
 module _ (ed : Edition) (c : Codeplug) (a : AcceptedCodeplug ed c) (r : List ℕ) (g : length r ≡ 72) (b : AllBytes r) where
@@ -89,13 +89,13 @@ module _ (ed : Edition) (c : Codeplug) (a : AcceptedCodeplug ed c) (r : List ℕ
   same_length = length-codeplug (with_preamble (new_preamble c.preamble r) c) shaped-preamble ∙ sym (length-codeplug c a.shaped)
 
   pub set-header-validated : file_rule ed (codeplug_bytes (with_preamble (new_preamble c.preamble r) c))
-      ≡ unless (text_ok (part r 0 32)) 5 10 then unless (text_ok (part r 32 32)) 5 42
+      ≡ unless (text_ok (part r 0 32)) reason.Text 10 then unless (text_ok (part r 32 32)) reason.Text 42
   unfolding with_preamble ◌then◌
   set-header-validated =
       file-validated (with_preamble (new_preamble c.preamble r) c) shaped-preamble ed
       ∙ rw (
         same_length,
-        unless-passes (leb (length (codeplug_bytes c)) 1_048_576) 1 0 (le-leb (length (codeplug_bytes c)) 1_048_576 a.short),
+        unless-passes (leb (length (codeplug_bytes c)) 1_048_576) reason.TooLong 0 (le-leb (length (codeplug_bytes c)) 1_048_576 a.short),
         contacts-pass ed 88 c.contacts a.contacts,
         channels-pass c.contacts _ c.channels a.channels,
         banks_ok-passes (length c.channels) _ c.banks a.banks,

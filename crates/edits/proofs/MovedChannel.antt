@@ -11,18 +11,18 @@ use lib.Seq.{get_or-take, get_or-drop, length-take-le}
 use lib.Dec.{leb, ltb, eqb}
 use borrow.Author.Tests.{eqb-true, ne_eqb, ltb-true, lt-ltb}
 use Rattle.fields.specs.Bytes.{part, num, little, little_bytes, over}
-use Rattle.fields.specs.Rule.{◌then◌, unless, field_of}
-use Rattle.fields.specs.declared.rule.Validity.TheVariants.{Valid}
+use Rattle.fields.specs.Rule.{◌then◌, unless, field_of, Valid}
 use Rattle.fields.proofs.Laws.{part_left, part-part, length_over, part-over, drop-over, length-little_bytes, little-little_bytes, bytes-little_bytes}
 use Rattle.fields.proofs.Laws.{bytes-over, AllBytes, then-valid, then-of-valid, unless-passes, field-inside}
 use Rattle.bits.specs.Packed.{nibbles_of}
 use Rattle.bits.proofs.Laws.{and_left, and_right}
 use Rattle.channel.specs.Values.{contact_index_place, contact_index_of, slot_ok, operation_ok, encryption_ok}
 use Rattle.channel.specs.Rule.{head_rule, texts_rule, location_rule, dmr_rule, m17_rule, info_rule, channel_rule, named_contact}
-use Rattle.channel.specs.declared.ContactIndex.TheVariants.{Index}
 use Rattle.channel.proofs.Laws.{ValidChannel, ValidDmr, ValidM17, by_mode, info-dmr, info-m17, channel-valid, dmr-named, m17-named}
 use Rattle.model.specs.Edits.{with_index_at, move_contact}
 use Rattle.edits.proofs.AcceptedCodeplug.{names_in, ChannelValid, fm-names}
+use Rattle.std.specs.Prelude.{Some}
+use Rattle.format.specs.declared.refusals.Reason.TheVariants as reason
 
 -- ---- two bytes of a channel written over
 
@@ -91,7 +91,7 @@ SameContact l k move x = (move x < length k) × (get_or k (move x) [] ≡ get_or
 module _ (l k : List (List ℕ)) (move : ℕ → ℕ) (none : move 65535 ≡ 65535) (fits : length k ≤ 65535) where
   -- by the index x, whose contact is in the list
   index-moves : (mode x : ℕ) → names_in l mode (contact_index_of x) ≡ true
-      → (contact_index_of x ≡ Index x → x < length l → SameContact l k move x)
+      → (contact_index_of x ≡ Some x → x < length l → SameContact l k move x)
       → (move x < 65536) × (names_in k mode (contact_index_of (move x)) ≡ true)
   unfolding contact_index_of names_in
   index-moves mode x h f = by (eqb x 65535) refl
@@ -102,7 +102,7 @@ module _ (l k : List (List ℕ)) (move : ℕ → ℕ) (none : move 65535 ≡ 655
           let n : move x ≡ 65535 = ap move d ∙ none in
           (omega arith, rw n)
       by false e =
-          let i : contact_index_of x ≡ Index x = rw e in
+          let i : contact_index_of x ≡ Some x = rw e in
           let g : (ltb x (length l) && eqb (get_or (get_or l x []) 32 0) mode) ≡ true = rw e at h in
           let a : x < length l = ltb-true x (length l) (and_left _ _ g) in
           let y = f i a in
@@ -111,7 +111,7 @@ module _ (l k : List (List ℕ)) (move : ℕ → ℕ) (none : move 65535 ≡ 655
           (omega arith, rw (ne_eqb (move x) 65535 (λ q. omega arith), lt-ltb (move x) (length k) z, y.1) same)
 
   module _ (s : List ℕ) (h : ChannelValid l s) (w : length s ≡ 90)
-      (f : (x : ℕ) → named_contact s ≡ Index x → x < length l → SameContact l k move x) where
+      (f : (x : ℕ) → named_contact s ≡ Some x → x < length l → SameContact l k move x) where
     fm-moves : get_or s 0 0 ≡ 0 → ChannelValid k (move_contact move s)
     unfolding move_contact
     fm-moves e =
@@ -207,32 +207,32 @@ module _ (s : List ℕ) (p : ℕ) (g : ValidChannel s) (l : 90 ≤ length s) whe
   info-passes : info_rule s p true ≡ Valid
   info-passes = sym (up-to-info true) ∙ channel-valid s p true g l refl
 
-  dmr-unless : (named : Bool) → get_or s 0 0 ≡ 1 → info_rule s p named ≡ unless named 9 (p + 87)
+  dmr-unless : (named : Bool) → get_or s 0 0 ≡ 1 → info_rule s p named ≡ unless named reason.ContactIndex (p + 87)
   unfolding dmr_rule ◌then◌
   dmr-unless named e =
-      let a = then-valid (field_of (length s) p 85 1 7 true) _ (sym (info-dmr s p true e) ∙ info-passes) in
-      let b = then-valid (field_of (length s) p 86 1 7 (slot_ok (get_or s 86 0))) _ a.1 in
-      let d = then-valid (field_of (length s) p 87 2 9 true) _ b.1 in
+      let a = then-valid (field_of (length s) p 85 1 reason.Value true) _ (sym (info-dmr s p true e) ∙ info-passes) in
+      let b = then-valid (field_of (length s) p 86 1 reason.Value (slot_ok (get_or s 86 0))) _ a.1 in
+      let d = then-valid (field_of (length s) p 87 2 reason.ContactIndex true) _ b.1 in
       info-dmr s p named e
-      ∙ rw (a.0, b.0, d.1, field-inside (length s) p 87 2 9 named (omega arith)) (then-of-valid (unless named 9 (p + 87)))
+      ∙ rw (a.0, b.0, d.1, field-inside (length s) p 87 2 reason.ContactIndex named (omega arith)) (then-of-valid (unless named reason.ContactIndex (p + 87)))
 
-  m17-unless : (named : Bool) → 2 ≤ get_or s 0 0 → info_rule s p named ≡ unless named 9 (p + 88)
+  m17-unless : (named : Bool) → 2 ≤ get_or s 0 0 → info_rule s p named ≡ unless named reason.ContactIndex (p + 88)
   unfolding m17_rule ◌then◌
   m17-unless named e =
-      let a = then-valid (field_of (length s) p 85 1 7 true) _ (sym (info-m17 s p true e) ∙ info-passes) in
+      let a = then-valid (field_of (length s) p 85 1 reason.Value true) _ (sym (info-m17 s p true e) ∙ info-passes) in
       let b =
-      then-valid (field_of (length s) p 86 1 7 (operation_ok (nibbles_of (get_or s 86 0)).high && encryption_ok (nibbles_of (get_or s 86 0)).low)) _
+      then-valid (field_of (length s) p 86 1 reason.Value (operation_ok (nibbles_of (get_or s 86 0)).high && encryption_ok (nibbles_of (get_or s 86 0)).low)) _
       a.1
       in
-      let d = then-valid (field_of (length s) p 87 1 7 (leb (get_or s 87 0) 1)) _ b.1 in
+      let d = then-valid (field_of (length s) p 87 1 reason.Value (leb (get_or s 87 0) 1)) _ b.1 in
       info-m17 s p named e
-      ∙ rw (a.0, b.0, d.0) (field-inside (length s) p 88 2 9 named (omega arith))
+      ∙ rw (a.0, b.0, d.0) (field-inside (length s) p 88 2 reason.ContactIndex named (omega arith))
 
   pub channel-unless : (named : Bool) → (get_or s 0 0 ≡ 0 → named ≡ true)
-      → channel_rule s p named ≡ unless named 9 (p + contact_index_place (get_or s 0 0))
+      → channel_rule s p named ≡ unless named reason.ContactIndex (p + contact_index_place (get_or s 0 0))
   channel-unless named f =
       up-to-info named
-      ∙ by_mode (info_rule s p named ≡ unless named 9 (p + contact_index_place (get_or s 0 0))) (get_or s 0 0)
-      (λ e. rw (f e) (info-passes ∙ sym (unless-passes true 9 (p + contact_index_place (get_or s 0 0)) refl)))
+      ∙ by_mode (info_rule s p named ≡ unless named reason.ContactIndex (p + contact_index_place (get_or s 0 0))) (get_or s 0 0)
+      (λ e. rw (f e) (info-passes ∙ sym (unless-passes true reason.ContactIndex (p + contact_index_place (get_or s 0 0)) refl)))
       (λ e. rw e (dmr-unless named e))
       (λ e. let d : get_or s 0 0 ≡ 2 = omega (arith, g.mode) in rw d (m17-unless named e))

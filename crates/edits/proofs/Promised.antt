@@ -9,7 +9,6 @@ use native.Mathlib.Omega.{arith}
 use lib.ListN.{length}
 use borrow.Author.Tests.{leb-true, eqb-true, not-true}
 use Rattle.fields.proofs.Laws.{AllBytes, then-valid, unless-valid}
-use Rattle.fields.specs.declared.rule.Validity.TheVariants.{Valid, Refused}
 use Rattle.m17.specs.declared.Edition.{Edition}
 use Rattle.file_rule.specs.File.{file_rule}
 use Rattle.file_rule.proofs.Laws.{file-valid}
@@ -21,9 +20,6 @@ use Rattle.journal.proofs.Promise.{EditSystemLaws, promise, state_after, book_af
 use Rattle.journal.proofs.StepLaws.{newest_first}
 use Rattle.journal.specs.Entry.{entry_size, whole}
 use Rattle.journal.specs.Change.{entry_of}
-use Rattle.journal.specs.declared.answer.Answer.TheVariants as answer
-use Rattle.model.specs.declared.KindRead.{KindRead}
-use Rattle.model.specs.declared.KindRead.TheVariants.{Known, NoKind}
 use Rattle.model.specs.Kinds.{kind_of}
 use Rattle.model.specs.Codeplug.{codeplug_of, codeplug_bytes}
 use Rattle.model.proofs.FileOf.{file-of-codeplug}
@@ -31,14 +27,20 @@ use Rattle.edits.proofs.AcceptedCodeplug.{has-layout}
 use Rattle.edits.specs.Editing.{EditRequest, refuses_known, refuses_kind, refuses, applied_kind, applied, editing}
 use Rattle.edits.specs.Demand.{OfBytes, Demand3}
 use Rattle.edits.proofs.ResultLaws.{result-bytes}
+use Rattle.std.specs.Prelude.{Some, None, Option}
+use Rattle.format.specs.declared.refusals.Reason.TheVariants as reason
+use Rattle.model.specs.declared.Kind.{Kind}
+use Rattle.journal.specs.Answer.{done_with}
+use Rattle.fields.specs.Rule.{Valid, Refused}
+use Rattle.format.specs.declared.refusals.Reason.{Reason}
 
 -- an edit that is not refused gives an accepted file of bytes that fits the room
-kind-valid : (ed : Edition) (t : KindRead) (a : EditRequest) (room : ℕ) (f : List ℕ) → AllBytes f → file_rule ed f ≡ Valid → AllBytes a.bytes
+kind-valid : (ed : Edition) (t : Option Kind) (a : EditRequest) (room : ℕ) (f : List ℕ) → AllBytes f → file_rule ed f ≡ Valid → AllBytes a.bytes
     → refuses_kind ed t a room f ≡ Valid
     → (file_rule ed (applied_kind t a f) ≡ Valid) × ((length (applied_kind t a f) ≤ room) × AllBytes (applied_kind t a f))
 unfolding refuses_known refuses_kind applied_kind
-kind-valid ed NoKind a room f bytes valid p h = let z : ◌≡◌ {A = ℕ} 0 1 = cc in absurd (omega arith)
-kind-valid ed (Known k) a room f bytes valid p h =
+kind-valid ed None a room f bytes valid p h = let z : ◌≡◌ {A = ℕ} 0 1 = cc in absurd (omega arith)
+kind-valid ed (Some k) a room f bytes valid p h =
     let wide = then-valid _ _ h in
     let place = then-valid _ _ wide.1 in
     let count = then-valid _ _ place.1 in
@@ -86,21 +88,21 @@ module _ (ed : Edition) (f spare history : List ℕ) (valid : file_rule ed f ≡
   editor-entries = entries-after (editing ed) OfBytes (editing-laws ed) f spare history valid bytes calls proper
 
   -- an edit is refused by its own refusals of the file, and then by 37 at 0 where its entry alone exceeds the history buffer: no other
-  pub editor-edit-refusals : (a : EditRequest) → OfBytes a → (n p : ℕ) → (step (editing ed) (edit a) now).answer ≡ answer.Refused n p
+  pub editor-edit-refusals : (a : EditRequest) → OfBytes a → (n : Reason) (p : ℕ) → (step (editing ed) (edit a) now).answer ≡ Refused n p
       → (refuses ed a (length (f ++ spare)) (file_of now) ≡ Refused n p)
-      ⊎ (((n ≡ 37) × (p ≡ 0)) × (length history < entry_size (entry_of (file_of now) (applied a (file_of now)))))
+      ⊎ (((n ≡ reason.HistoryTooSmall) × (p ≡ 0)) × (length history < entry_size (entry_of (file_of now) (applied a (file_of now)))))
   editor-edit-refusals = edit-refusals (editing ed) OfBytes (editing-laws ed) f spare history valid bytes calls proper
 
   -- an undo is refused exactly where no standing edit's entry is kept, by 38 at 0; 39 does not arise
-  pub editor-undo-refusals : (n p : ℕ) → (step (editing ed) undo now).answer ≡ answer.Refused n p
-      → ((n ≡ 38) × (p ≡ 0)) × (any_kept (editing ed) booked.standing ≡ false)
+  pub editor-undo-refusals : (n : Reason) (p : ℕ) → (step (editing ed) undo now).answer ≡ Refused n p
+      → ((n ≡ reason.NoUndo) × (p ≡ 0)) × (any_kept (editing ed) booked.standing ≡ false)
   editor-undo-refusals = undo-refusals (editing ed) OfBytes (editing-laws ed) f spare history valid bytes calls proper
 
-  pub editor-undo-refused : any_kept (editing ed) booked.standing ≡ false → (step (editing ed) undo now).answer ≡ answer.Refused 38 0
+  pub editor-undo-refused : any_kept (editing ed) booked.standing ≡ false → (step (editing ed) undo now).answer ≡ Refused reason.NoUndo 0
   editor-undo-refused = undo-refused (editing ed) OfBytes (editing-laws ed) f spare history valid bytes calls proper
 
   -- an undo that is accepted takes back the last standing edit
-  pub editor-undo-takes-back : (len used n : ℕ) → (step (editing ed) undo now).answer ≡ answer.Done len used n
+  pub editor-undo-takes-back : (len used n : ℕ) → (step (editing ed) undo now).answer ≡ done_with len used n
       → file_of (next (editing ed) undo now) ≡ file_after (editing ed) f (without_last (editing ed) booked.standing)
   editor-undo-takes-back = undo-takes-back (editing ed) OfBytes (editing-laws ed) f spare history valid bytes calls proper
 

@@ -7,7 +7,6 @@ use mathlib.Core.List.{List}
 use lib.ListN.{length}
 use lib.Dec.{leb, ltb}
 use borrow.Author.Tests.{leb-true, ltb-true}
-use Rattle.fields.specs.declared.rule.Validity.TheVariants.{Valid}
 use Rattle.fields.proofs.Laws.{AllBytes}
 use Rattle.bits.proofs.Laws.{and_right}
 use Rattle.m17.specs.declared.Edition.{Edition}
@@ -29,6 +28,7 @@ use Rattle.edits.proofs.BankKinds.{insert-bank-is, rename-bank-is, insert-entry-
 use Rattle.edits.proofs.ChannelEdits.{insert-channel-is, remove-channel-is, replace-channel-is}
 use Rattle.edits.proofs.ContactEdits.{insert-contact-is, remove-contact-is, replace-contact-is}
 use Rattle.edits.proofs.EditShape.{up_to, below, may-grow, entries_fit, edited-shaped}
+use Rattle.fields.specs.Rule.{Valid}
 
 -- ---- reading its file
 

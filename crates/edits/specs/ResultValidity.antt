@@ -3,9 +3,7 @@
 use Rattle.std.specs.Prelude.{ℕ, ◌+◌, ◌*◌, ◌-◌, ◌||◌, not, List, length, get_or, leb, ltb, eqb}
 use Rattle.fields.specs.Bytes.{part, little}
 use Rattle.text.specs.Text.{text_ok}
-use Rattle.fields.specs.Rule.{◌then◌, unless, each}
-use Rattle.fields.specs.declared.rule.Validity.{Validity}
-use Rattle.fields.specs.declared.rule.Validity.TheVariants.{Valid}
+use Rattle.fields.specs.Rule.{◌then◌, unless, each, Validity, Valid}
 use Rattle.m17.specs.declared.Edition.{Edition}
 use Rattle.layout.specs.Places.{channel_count, contact_place, channel_place}
 use Rattle.layout.specs.Banks.{entry_count, bank_place}
@@ -16,10 +14,11 @@ use Rattle.file_rule.specs.File.{index_ok}
 use Rattle.model.specs.EditRules.{is_index}
 use Rattle.model.specs.declared.Kind.{Kind}
 use Rattle.model.specs.declared.Kind.TheVariants.{InsertContact, RemoveContact, ReplaceContact, InsertChannel, RemoveChannel, ReplaceChannel, InsertBank, RemoveBank, RenameBank, InsertEntry, RemoveEntry, SetHeader}
+use Rattle.format.specs.declared.refusals.Reason.TheVariants as reason
 
 -- the file may grow by so many bytes
 unfoldable pub may_grow : ℕ → List ℕ → Validity
-may_grow n f = unless (leb (length f + n) 1_048_576) 1 0
+may_grow n f = unless (leb (length f + n) 1_048_576) reason.TooLong 0
 
 -- where the contact index of a channel at p stands
 unfoldable pub index_place : List ℕ → ℕ → ℕ
@@ -28,7 +27,7 @@ index_place s p = p + contact_index_place (get_or s 0 0)
 -- a channel at p that names contact i is of this mode
 unfoldable pub keeps_mode : List ℕ → ℕ → ℕ → ℕ → Validity
 keeps_mode f i mode p =
-    unless (not (is_index i (named_contact (part f p 90))) || eqb (get_or (part f p 90) 0 0) mode) 9 (index_place (part f p 90) p)
+    unless (not (is_index i (named_contact (part f p 90))) || eqb (get_or (part f p 90) 0 0) mode) reason.ContactIndex (index_place (part f p 90) p)
 
 abbrev pub result_rule : Edition → Kind → ℕ → ℕ → List ℕ → List ℕ → Validity
 result_rule e InsertContact i j r f = may_grow 39 f then contact_rule e r (contact_place i)
@@ -39,14 +38,14 @@ result_rule e ReplaceContact i j r f =
 result_rule e InsertChannel i j r f = may_grow 90 f then channel_rule r (channel_place f i) (index_ok f r)
 result_rule e RemoveChannel i j r f = Valid
 result_rule e ReplaceChannel i j r f = channel_rule r (channel_place f i) (index_ok f r)
-result_rule e InsertBank i j r f = may_grow 38 f then unless (text_ok r) 5 (bank_place f i + 4)
+result_rule e InsertBank i j r f = may_grow 38 f then unless (text_ok r) reason.Text (bank_place f i + 4)
 result_rule e RemoveBank i j r f = Valid
-result_rule e RenameBank i j r f = unless (text_ok r) 5 (bank_place f i)
+result_rule e RenameBank i j r f = unless (text_ok r) reason.Text (bank_place f i)
 result_rule e InsertEntry i j r f =
     may_grow 2 f
-    then unless (ltb (little r) (channel_count f)) 11 (bank_place f i + 34 + j * 2)
+    then unless (ltb (little r) (channel_count f)) reason.BankEntry (bank_place f i + 34 + j * 2)
 result_rule e RemoveEntry i j r f = Valid
-result_rule e SetHeader i j r f = unless (text_ok (part r 0 32)) 5 10 then unless (text_ok (part r 32 32)) 5 42
+result_rule e SetHeader i j r f = unless (text_ok (part r 0 32)) reason.Text 10 then unless (text_ok (part r 32 32)) reason.Text 42
 
 -- the length of an edit's result (edit_result, proofs/LengthLaws.antt); a bank goes with its offset
 abbrev pub result_length : Kind → ℕ → List ℕ → ℕ

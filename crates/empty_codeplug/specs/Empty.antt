@@ -2,15 +2,15 @@
 -- (docs/DECISIONS.md).
 use Rattle.std.specs.Prelude.{ℕ, List, ◌∷◌, length, leb}
 use Rattle.fields.specs.Bytes.{zeros}
-use Rattle.fields.specs.Rule.{unless, written}
-use Rattle.fields.specs.declared.rule.Validity.{Validity}
+use Rattle.fields.specs.Rule.{unless, written, Validity}
+use Rattle.format.specs.declared.refusals.Reason.TheVariants as reason
 
 -- the magic number and version 1; author, description, timestamp and the three counts are zeros
 unfoldable pub empty_codeplug : List ℕ
 empty_codeplug = 0x52 ∷ 0x54 ∷ 0x58 ∷ 0x43 ∷ 0 ∷ 0 ∷ 0 ∷ 0 ∷ 1 ∷ 0 ∷ zeros 78
 
 unfoldable pub empty_write_rule : ℕ → Validity
-empty_write_rule size = unless (leb 88 size) 25 0
+empty_write_rule size = unless (leb 88 size) reason.ShortBuffer 0
 
 -- the later contents of the buffer
 unfoldable pub empty_written : List ℕ → List ℕ

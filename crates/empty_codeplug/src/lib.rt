@@ -5,9 +5,9 @@ ghost use Rattle.std.specs.Prelude.{◌≡◌, length};
 ghost use Rattle.empty_codeplug.specs.Empty.{empty_codeplug, empty_write_rule, empty_written};
 
 use fields::put::{put, put_le16, put_le32};
-use fields::rule::{Validity, unless};
+use fields::rule::unless;
 use format::header::{FILE_VERSION, MAGIC_NUMBER};
-use format::refusals::SHORT_BUFFER;
+use format::refusals::{Reason, Refusal};
 use format::sizes::HEADER_SIZE;
 
 // The header, from zeros: the magic number and the version.
@@ -21,16 +21,12 @@ fn header_bytes() -> [u8; HEADER_SIZE]
 }
 
 // Writes the empty codeplug over the beginning of a buffer.
-pub fn write(out: &mut [u8]) -> Validity
+#[tactic(auto, unfolding(crate::specs::Empty::empty_written, crate::specs::Empty::empty_write_rule), using(fields::proofs::Laws::written_ok, fields::proofs::Laws::written_err, crate::proofs::Laws::rule_room, crate::proofs::Laws::length_empty))]
+pub fn write(out: &mut [u8]) -> Result<(), Refusal>
     ensures { (result ≡ empty_write_rule (length out.old)) × (out.new ≡ empty_written out.old) }
 {
-    let validity = unless(HEADER_SIZE <= out.len(), SHORT_BUFFER, 0);
-    match validity {
-        Validity::Valid => {
-            let r = header_bytes();
-            put(out, 0, &r);
-            Validity::Valid
-        }
-        Validity::Refused(n, p) => Validity::Refused(n, p),
-    }
+    unless(HEADER_SIZE <= out.len(), Reason::ShortBuffer, 0)?;
+    let r = header_bytes();
+    put(out, 0, &r);
+    Ok(())
 }

@@ -5,23 +5,30 @@ ghost use Rattle.std.specs.Prelude.{◌≡◌};
 ghost use Rattle.entries.specs.Entry.{entry_step};
 
 use fields::numbers::le16;
-use format::refusals::NO_PLACE;
+use format::refusals::{Reason, Refusal};
 
-// A bank entry: the channel's index, and the place of the next entry. Past the last entry: 33.
-#[derive(Clone, Copy)]
-pub enum EntryStep {
-    Entry(u16, usize),
-    Refused(u8, usize),
+// A bank entry: the channel's index, and the place of the next entry.
+#[derive(Clone, Copy, Debug, PartialEq, Eq)]
+pub struct EntryStep {
+    pub channel: u16,
+    pub next: usize,
 }
 
-// Entry i of a bank's entry bytes.
-pub fn entry(s: &[u8], i: usize) -> EntryStep
+// Entry i of a bank's entry bytes. Past the last entry there is no such place.
+#[tactic(auto, unfolding(crate::specs::Entry::entry_step))]
+pub fn entry(s: &[u8], i: usize) -> Result<EntryStep, Refusal>
     ensures { result ≡ entry_step s.now i }
 {
     if i < s.len() / 2 {
-        EntryStep::Entry(le16(s, i * 2), i + 1)
+        Ok(EntryStep {
+            channel: le16(s, i * 2),
+            next: i + 1,
+        })
     } else {
-        EntryStep::Refused(NO_PLACE, 0)
+        Err(Refusal {
+            reason: Reason::NoPlace,
+            place: 0,
+        })
     }
 }
 
@@ -41,7 +48,7 @@ pub fn walker<'a>(entries: &'a [u8]) -> BankWalker<'a>
 
 // The entry at the walker's place. The walker stays there, as a value cannot be changed by a call: `moved` takes it to the place that the step
 // answered.
-pub fn peek<'a>(w: BankWalker<'a>) -> EntryStep
+pub fn peek<'a>(w: BankWalker<'a>) -> Result<EntryStep, Refusal>
     ensures { result ≡ entry_step w.entry.entries.now w.entry.at }
 {
     entry(w.entries, w.at)
@@ -58,7 +65,7 @@ pub fn moved<'a>(w: BankWalker<'a>, at: usize) -> BankWalker<'a>
 }
 
 // Entry i by a walker: its parameters are plain, so its callers need not know of the walker.
-pub fn walked(entries: &[u8], i: usize) -> EntryStep
+pub fn walked(entries: &[u8], i: usize) -> Result<EntryStep, Refusal>
     ensures { result ≡ entry_step entries.now i }
 {
     peek(moved(walker(entries), i))

@@ -10,11 +10,13 @@ ghost use Rattle.layout.specs.Banks.{entry_at};
 
 use crate::whole::entries_valid;
 use fields::numbers::le16;
-use fields::rule::{Validity, field};
-use format::refusals::BANK_ENTRY;
+use fields::rule::field;
+use format::refusals::{Reason, Refusal};
+use format::sizes::BANK_ENTRY_SIZE;
 use layout::places::{channel_count, record_bytes};
 
-fn entry_at(f: &[u8], p: usize, channels: usize) -> Validity
+#[tactic(auto, unfolding(layout::specs::Banks::entry_at))]
+fn entry_at(f: &[u8], p: usize, channels: usize) -> Result<(), Refusal>
     requires { (p < 2 ^ 60) × (channels ≡ channel_count f.now) }
     ensures { result ≡ entry_at f.now p }
 {
@@ -24,36 +26,30 @@ fn entry_at(f: &[u8], p: usize, channels: usize) -> Validity
         p,
         0,
         2,
-        BANK_ENTRY,
+        Reason::BankEntry,
         index < channels,
     )
 }
 
 // The first bad one of n entries.
-fn find_entry(f: &[u8], n: usize, start: usize) -> Validity
+#[tactic(auto, using(fields::proofs::Laws::each_more, fields::proofs::Laws::each_refused, fields::proofs::Laws::each_none))]
+fn find_entry(f: &[u8], n: usize, start: usize) -> Result<(), Refusal>
     requires { (n < 65536) × (start < 2 ^ 50) }
     ensures { result ≡ each (entry_at f.now) n 2 start }
 {
     let channels = channel_count(f);
-    let mut i = 0;
-    let mut p = start;
-    while i < n {
-        let v = entry_at(f, p, channels);
-        if let Validity::Refused(_, _) = v {
-            return v;
-        }
-        i += 1;
-        p += 2;
+    for i in 0..n {
+        entry_at(f, start + i * BANK_ENTRY_SIZE, channels)?;
     }
-    Validity::Valid
+    Ok(())
 }
 
-pub fn validate_entries(f: &[u8], n: usize, start: usize) -> Validity
+pub fn validate_entries(f: &[u8], n: usize, start: usize) -> Result<(), Refusal>
     requires { (n < 65536) × (start < 2 ^ 50) }
     ensures { result ≡ each (entry_at f.now) n 2 start }
 {
     if entries_valid(f, n, start) {
-        return Validity::Valid;
+        return Ok(());
     }
     find_entry(f, n, start)
 }

@@ -4,10 +4,10 @@
 use Prim.Native.Nat.{ℕ}
 use mathlib.Core.Path.{◌≡◌, refl}
 use mathlib.Core.List.{List, [], ◌∷◌, ◌++◌}
+use Rattle.std.proofs.Common.{Some}
 use lib.ListN.{replicate}
 use Rattle.fields.specs.Bytes.{zeros}
 use Rattle.fields.specs.Rule.{field_of, unless, ◌then◌, each}
-use Rattle.fields.specs.declared.rule.Validity.TheVariants as validity
 use Rattle.fields.specs.Bytes.{little, little_bytes, big_from}
 use Rattle.contact.specs.Contact.{mode_ok, m17_rule, contact_rule}
 use Rattle.channel.specs.Rule.{fm_rule}
@@ -17,13 +17,12 @@ use Rattle.layout.specs.Banks.{offsets_rule, banks_rule, banks_from, bank_at, ba
 use Rattle.file_rule.specs.File.{file_rule, contacts_rule, channels_rule}
 use Rattle.layout.specs.Places.{contact_count, channel_count, bank_count, contact_place, channel_place, offset_place, banks_place}
 use Rattle.affixes.specs.Common.{common_prefix, common_suffix}
-use Rattle.varint.specs.declared.NumberRead.TheVariants.{Broken}
+use Rattle.std.specs.Prelude.{None}
 use Rattle.varint.specs.Number.{number_bytes, groups, number_at, groups_at, at_most, with_group}
 use Rattle.journal.specs.Entry.{whole, entry_bytes, entry_size, history_bytes, entries_of, entries_up_to, front_of, with_place, with_put, with_old, before, rest_of}
 use Rattle.journal.specs.Change.{entry_of, suffix_length}
 use Rattle.journal.specs.Machine.{State, edit_step, edit_outcome, edit_rule, buffers_rule, file_of, history_of, entry_list, whole_rule, done, holding, refused, new_entry}
 use Rattle.journal.specs.History.{recorded, fitting_run}
-use Rattle.journal.specs.declared.answer.Answer.TheVariants.{Done, Refused}
 use Rattle.model.specs.Codeplug.{codeplug_of, codeplug_bytes, joined, bank_bytes, pairs, offsets_from, count_bytes, blocks, banks_at}
 use Rattle.model.specs.Kinds.{kind_of}
 use Rattle.model.specs.Edits.{edited, insert_at, with_banks, with_preamble}
@@ -32,18 +31,20 @@ use Rattle.edits.specs.Editing.{EditRequest, editing, refuses, refuses_kind, ref
 use Rattle.m17.specs.declared.Edition.TheVariants.{Older, Newer}
 use Rattle.m17.specs.Edition.{edition_of}
 use Rattle.m17.specs.Address.{address_ok, encoding, decoding, decoded_by, decoded_into, hash_signs, foreign_place, number_of, address_of, digit_of, first_foreign, foreign, ends_in_space, within, is_callsign, text_for, text_up_to, char_of}
-use Rattle.m17.specs.declared.Encoded.TheVariants as encoded
 use Rattle.m17.specs.declared.Decoded.TheVariants as decoded
 use Rattle.tones.specs.Tone.{tone_of, tone_ok, tone_index, frequency_of, tone_table}
 use Rattle.tones.specs.declared.Tone.{Tone}
 use Rattle.tones.specs.declared.Tone.TheVariants.{Enabled, Disabled}
-use Rattle.tones.specs.declared.Frequency.TheVariants.{Tenths}
+use Rattle.std.specs.Prelude.{Ok}
+use Rattle.format.specs.declared.refusals.Reason.TheVariants as reason
+use Rattle.journal.specs.Answer.{done_with}
+use Rattle.fields.specs.Rule.{Valid, Refused}
 
 -- ---- tones
 
 -- a tone byte and what it means: the tone, and its frequency in tenths of a hertz
 abbrev Means : ℕ → Tone → ℕ → Type 0
-Means b t f = (tone_of b ≡ t) × (frequency_of (tone_index t) ≡ Tenths f)
+Means b t f = (tone_of b ≡ t) × (frequency_of (tone_index t) ≡ Some f)
 
 -- an FM channel's bytes, zero but for its receive tone
 abbrev with_tone : ℕ → List ℕ
@@ -54,8 +55,8 @@ with_tone b = zeros 85 ++ (b ∷ zeros 4)
 -- 80 00 is no number, so a history that starts with it is refused; with the shortest form of 0 in its place it is one entry
 abbrev Shortest : Type 0
 Shortest =
-    (number_at (0x80 ∷ 0x00 ∷ []) ≡ Broken)
-    × (whole_rule (entries_of (0x80 ∷ 0x00 ∷ 0x00 ∷ 0x00 ∷ [])) ≡ validity.Refused 31 0)
+    (number_at (0x80 ∷ 0x00 ∷ []) ≡ None)
+    × (whole_rule (entries_of (0x80 ∷ 0x00 ∷ 0x00 ∷ 0x00 ∷ [])) ≡ Refused reason.BadHistory 0)
     × (entries_of (0x00 ∷ 0x00 ∷ 0x00 ∷ []) ≡ whole (record { place = 0; put = 0; old = [] } ∷ []))
 
 -- ---- edits
@@ -87,19 +88,19 @@ at spare h = record { room = empty 0 ++ spare; length-in-room = 88; history = h;
 abbrev Dated : Type 0
 Dated =
     edit_step (editing Older) dated (at (7 ∷ 8 ∷ 9 ∷ []) (1 ∷ 2 ∷ 3 ∷ 4 ∷ 5 ∷ 6 ∷ []))
-    ≡ record { answer = Done 88 4 1; room = empty 1 ++ (7 ∷ 8 ∷ 9 ∷ []); history = 0x4A ∷ 0x01 ∷ 0x01 ∷ 0x00 ∷ 5 ∷ 6 ∷ [] }
+    ≡ record { answer = done_with 88 4 1; room = empty 1 ++ (7 ∷ 8 ∷ 9 ∷ []); history = 0x4A ∷ 0x01 ∷ 0x01 ∷ 0x00 ∷ 5 ∷ 6 ∷ [] }
 
 -- the nameless bank takes 38 of 40 spare bytes
 abbrev Banked : Type 0
 Banked =
     edit_step (editing Older) banked (at (replicate 38 255 ++ (8 ∷ 9 ∷ [])) (1 ∷ 2 ∷ 3 ∷ 4 ∷ 5 ∷ []))
-    ≡ record { answer = Done 126 3 1; room = one_bank ++ (8 ∷ 9 ∷ []); history = 0x56 ∷ 0x26 ∷ 0x00 ∷ 4 ∷ 5 ∷ [] }
+    ≡ record { answer = done_with 126 3 1; room = one_bank ++ (8 ∷ 9 ∷ []); history = 0x56 ∷ 0x26 ∷ 0x00 ∷ 4 ∷ 5 ∷ [] }
 
 -- a history buffer of 3 bytes is too small for the timestamp edit
 abbrev NoRoomForEntry : Type 0
 NoRoomForEntry =
     edit_step (editing Older) dated (at (7 ∷ []) (1 ∷ 2 ∷ 3 ∷ []))
-    ≡ record { answer = Refused 37 0; room = empty 0 ++ (7 ∷ []); history = 1 ∷ 2 ∷ 3 ∷ [] }
+    ≡ record { answer = Refused reason.HistoryTooSmall 0; room = empty 0 ++ (7 ∷ []); history = 1 ∷ 2 ∷ 3 ∷ [] }
 
 -- ---- the table
 
@@ -107,17 +108,17 @@ NoRoomForEntry =
 -- timestamp edit; the nameless bank; and, not marked P, the timestamp edit with a history of 3 bytes
 abbrev pub Rows : Type 0
 Rows =
-    (encoding Older (65 ∷ []) ≡ encoded.Number 1)
-    × (encoding Older (65 ∷ 66 ∷ 49 ∷ 67 ∷ 68 ∷ []) ≡ encoded.Number 10_476_881)
-    × (encoding Older (32 ∷ 65 ∷ []) ≡ encoded.Number 40)
-    × (encoding Older (65 ∷ 32 ∷ []) ≡ encoded.Refused 22 0)
-    × (encoding Older (replicate 9 46) ≡ encoded.Number 262_143_999_999_999)
-    × (decoding Older 9 262_144_000_000_000 ≡ decoded.Refused 23 0)
-    × (encoding Older [] ≡ encoded.Refused 20 0)
+    (encoding Older (65 ∷ []) ≡ Ok 1)
+    × (encoding Older (65 ∷ 66 ∷ 49 ∷ 67 ∷ 68 ∷ []) ≡ Ok 10_476_881)
+    × (encoding Older (32 ∷ 65 ∷ []) ≡ Ok 40)
+    × (encoding Older (65 ∷ 32 ∷ []) ≡ Refused reason.CallsignSpace 0)
+    × (encoding Older (replicate 9 46) ≡ Ok 262_143_999_999_999)
+    × (decoding Older 9 262_144_000_000_000 ≡ Refused reason.AddressNumber 0)
+    × (encoding Older [] ≡ Refused reason.CallsignLength 0)
     × Means 0x1F (Disabled 31) 1738
     × Means 0x8E (Enabled 14) 1072
-    × (fm_rule (with_tone 0x31) 0 ≡ validity.Valid)
-    × (fm_rule (with_tone 0x32) 0 ≡ validity.Refused 7 85)
+    × (fm_rule (with_tone 0x31) 0 ≡ Valid)
+    × (fm_rule (with_tone 0x32) 0 ≡ Refused reason.Value 85)
     × (number_bytes 127 ≡ 0x7F ∷ [])
     × (number_bytes 128 ≡ 0x80 ∷ 0x01 ∷ [])
     × Shortest
@@ -143,24 +144,24 @@ hash_contact = zeros 32 ++ (2 ∷ 0xEE ∷ 0x6B ∷ 0x28 ∷ 0 ∷ 0 ∷ 0 ∷ [
 -- the contact. By the older: the hash sign, 40^9 + 40^8 - 1, the contact. Edition 2 is the older
 abbrev pub HashRows : Type 0
 HashRows =
-    (encoding Newer (35 ∷ []) ≡ encoded.Number 262_144_000_000_000)
-    × (encoding Newer (35 ∷ replicate 8 46) ≡ encoded.Number 268_697_599_999_999)
-    × (encoding Newer (35 ∷ replicate 9 46) ≡ encoded.Refused 20 0)
-    × (encoding Newer (35 ∷ 32 ∷ []) ≡ encoded.Refused 22 0)
-    × (encoding Newer (35 ∷ 32 ∷ 65 ∷ []) ≡ encoded.Number 262_144_000_000_040)
-    × (encoding Newer (35 ∷ 65 ∷ 32 ∷ []) ≡ encoded.Refused 22 0)
-    × (encoding Newer (35 ∷ 35 ∷ []) ≡ encoded.Refused 21 1)
-    × (encoding Newer (65 ∷ 35 ∷ []) ≡ encoded.Refused 21 1)
-    × (decoding Newer 9 268_697_600_000_000 ≡ decoded.Refused 23 0)
-    × (decoding Newer 9 0xFFFFFFFFFFFF ≡ decoded.Broadcast)
+    (encoding Newer (35 ∷ []) ≡ Ok 262_144_000_000_000)
+    × (encoding Newer (35 ∷ replicate 8 46) ≡ Ok 268_697_599_999_999)
+    × (encoding Newer (35 ∷ replicate 9 46) ≡ Refused reason.CallsignLength 0)
+    × (encoding Newer (35 ∷ 32 ∷ []) ≡ Refused reason.CallsignSpace 0)
+    × (encoding Newer (35 ∷ 32 ∷ 65 ∷ []) ≡ Ok 262_144_000_000_040)
+    × (encoding Newer (35 ∷ 65 ∷ 32 ∷ []) ≡ Refused reason.CallsignSpace 0)
+    × (encoding Newer (35 ∷ 35 ∷ []) ≡ Refused reason.CallsignForeign 1)
+    × (encoding Newer (65 ∷ 35 ∷ []) ≡ Refused reason.CallsignForeign 1)
+    × (decoding Newer 9 268_697_600_000_000 ≡ Refused reason.AddressNumber 0)
+    × (decoding Newer 9 0xFFFFFFFFFFFF ≡ (Ok decoded.Broadcast))
     × Writes 262_143_999_999_999 (replicate 9 46)
     × Writes 262_144_000_000_000 (35 ∷ zeros 8)
     × Writes 262_144_000_000_040 (35 ∷ 32 ∷ 65 ∷ zeros 6)
     × Writes 268_697_599_999_999 (35 ∷ replicate 8 46)
-    × (contact_rule Newer hash_contact 0 ≡ validity.Valid)
-    × (encoding Older (35 ∷ []) ≡ encoded.Refused 21 0)
-    × (decoding Older 9 268_697_599_999_999 ≡ decoded.Refused 23 0)
-    × (contact_rule Older hash_contact 0 ≡ validity.Refused 8 33)
+    × (contact_rule Newer hash_contact 0 ≡ Valid)
+    × (encoding Older (35 ∷ []) ≡ Refused reason.CallsignForeign 0)
+    × (decoding Older 9 268_697_599_999_999 ≡ Refused reason.AddressNumber 0)
+    × (contact_rule Older hash_contact 0 ≡ Refused reason.Address 33)
     × (edition_of 2 ≡ Older)
 
 pub hash-rows : HashRows

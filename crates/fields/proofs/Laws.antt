@@ -6,20 +6,26 @@ use mathlib.Core.List.{List, [], ◌∷◌, ◌++◌, append_assoc, append-nil}
 use native.Mathlib.Omega.{arith}
 use native.Mathlib.Numerals.{add-one, one-add}
 use native.Mathlib.Nat.{add-zero, add-suc, zero-add, suc-add, add_assoc, pow-succ', pow-suc, pow-zero, one-le-pow}
-use native.Mathlib.Nat.{mul-le-mul_right, div-one, div-div-eq-div-mul}
-use lib.ListN.{length, get_or, take, drop, set, length-append, length-take, length-drop, length-replicate}
+use native.Mathlib.Nat.{mul-le-mul_right, div-one, div-div-eq-div-mul, sub-zero}
+use lib.ListN.{length, get_or, take, drop, set, replicate, length-append, length-take, length-drop, length-replicate}
 use lib.ListN.{take-append-drop, replicate-append-replicate}
-use lib.Seq.{length-take-le, paste, paste-suc, take_all, take_at, drop_at, take-take, drop-drop, drop-nil, take-nil}
-use lib.Seq.{drop-cons, drop-append-le, drop-append-add, drop-append_seam, take-append-le, take-append_seam, take-add}
-use lib.Seq.{take-suc, take-suc-set, set_split, get_or-take, get_or-drop, get_or-append-add}
+use lib.Seq.{length-take-le, paste, take_all, take_at, drop_at, take-take, drop-drop, drop-nil, take-nil}
+use lib.Seq.{drop-cons, drop-append-le, drop-append-add, take-append-le, take-append_seam, take-add}
+use lib.Seq.{take-suc, set_split, get_or-take, get_or-drop, get_or-append-add}
 use lib.Arith.{digits_div, mod-mul}
 use lib.Dec.{leb}
 use borrow.Author.Tests.{le-leb, lt-leb, leb-true}
+use borrow.Rule.Slice.PartMut.{put_mid}
+use Rattle.std.specs.Int.{Width, byte_len, bytes_low_first, bytes_high_first, to_le_bytes, sum_through, byte_worth}
+use Rattle.std.specs.List.{copy_within, slice_index}
 use Rattle.fields.specs.Bytes.{part, zeros, over, little, little_bytes, big_from, big, big_bytes, num}
 pub use Rattle.fields.specs.Bytes.{AllBytes}
 use Rattle.fields.specs.Rule.{◌then◌, is_valid, unless, field_of, each, written}
-use Rattle.fields.specs.declared.rule.Validity.{Validity}
-use Rattle.fields.specs.declared.rule.Validity.TheVariants.{Valid, Refused}
+use Rattle.std.specs.Prelude.{Ok, Err}
+use Rattle.format.specs.declared.refusals.Reason.TheVariants as reason
+use Rattle.fields.specs.Rule.{Validity, Valid, Refused}
+use Rattle.format.specs.declared.refusals.Reason.{Reason}
+use Rattle.format.specs.declared.refusals.Refusal.{Refusal}
 
 -- ---- parts
 
@@ -28,9 +34,6 @@ length_part s k n h = simp (length-take, length-drop) (omega arith)
 
 pub get_d_part : (s : List ℕ) (k n i : ℕ) → i < n → get_or (part s k n) i 0 ≡ get_or s (k + i) 0
 get_d_part s k n i h = rw (get_or-take, get_or-drop)
-
-pub get_or-part-one : (s : List ℕ) (k : ℕ) → get_or (part s k 1) 0 0 ≡ get_or s k 0
-get_or-part-one s k = get_d_part s k 1 0 (omega arith) ∙ rw add-zero
 
 -- the part at the front of a longer part of l
 take-drop-take : (l : List ℕ) (k n w : ℕ) → k + n ≤ w → take n (drop k (take w l)) ≡ take n (drop k l)
@@ -49,15 +52,17 @@ part-add s k m n = take-add m n (drop k s) ∙ rw drop-drop
 pub part-inside : (s : List ℕ) (k n : ℕ) → 0 < n → n ≤ length (part s k n) → k + n ≤ length s
 part-inside s k n h g = omega (arith, simp (length-take, length-drop) at g)
 
+pub part_whole : (s : List ℕ) (k n : ℕ) → n ≤ length (part s k n) → length (part s k n) ≡ n
+part_whole s k n h =
+    let most : length (part s k n) ≤ n = rw length-take (omega arith) in
+    omega arith
+
 -- one byte more, at the end and in front
 pub part-suc : (s : List ℕ) (k i : ℕ) → k + i < length s → part s k (suc i) ≡ part s k i ++ (get_or s (k + i) 0 ∷ [])
 part-suc s k i h = take-suc (drop k s) i 0 (simp length-drop (omega arith)) ∙ rw get_or-drop
 
 pub part-cons : (s : List ℕ) (k n : ℕ) → k < length s → part s k (suc n) ≡ get_or s k 0 ∷ part s (suc k) n
 part-cons s k n h = rw (drop-cons s k 0 h)
-
-pub part-next : (s : List ℕ) (k i n : ℕ) → k + i < length s → part s (k + i) (suc n) ≡ get_or s (k + i) 0 ∷ part s (k + suc i) n
-part-next s k i n h = part-cons s (k + i) n h ∙ rw (← add-suc k i)
 
 pub part-all : (s : List ℕ) (n : ℕ) → length s ≤ n → part s 0 n ≡ s
 part-all s n h = take_all n s h
@@ -69,26 +74,12 @@ part_left a b k n h =
     let g : n ≤ length (drop k a) = simp length-drop (omega arith) in
     rw (drop-append-le k a b f, take-append-le n (drop k a) b g)
 
-pub part-seam : (a b : List ℕ) (n : ℕ) → part (a ++ b) (length a) n ≡ take n b
-part-seam a b n = rw drop-append_seam
-
 pub part_right : (a b : List ℕ) (k n : ℕ) → part (a ++ b) (length a + k) n ≡ part b k n
 part_right a b k n = rw drop-append-add
-
-pub part-past : (a b : List ℕ) (k n : ℕ) → length a ≤ k → part (a ++ b) k n ≡ part b (k - length a) n
-part-past a b k n h =
-    let e : k ≡ length a + (k - length a) = omega arith in
-    ap (λ (j : ℕ). part (a ++ b) j n) e ∙ part_right a b (k - length a) n
 
 -- the middle one of three lists
 pub part_at : (a b c : List ℕ) (k n : ℕ) → length a ≡ k → length b ≡ n → part (a ++ (b ++ c)) k n ≡ b
 part_at a b c k n ha hb = rw (drop_at a (b ++ c) k ha, take_at b c n hb)
-
--- the last one of two lists
-pub part-last : (a b : List ℕ) (k n : ℕ) → length a ≡ k → length b ≡ n → part (a ++ b) k n ≡ b
-part-last a b k n ha hb =
-    let f : length b ≤ n = omega arith in
-    rw (drop_at a b k ha, take_all n b f)
 
 -- a has n bytes, as a record, from which antt finds a and n
 pub record Long (a : List ℕ) (n : ℕ) : Type 0 where
@@ -121,9 +112,6 @@ num-skip h b k n = ap little (part-skip h b k n)
 pub length-zeros : (n : ℕ) → length (zeros n) ≡ n
 unfolding zeros
 length-zeros n = length-replicate n 0
-
-pub long-zeros : (n : ℕ) → Long (zeros n) n
-long-zeros n = record { long = length-zeros n }
 
 pub drop-zeros : (m n : ℕ) → drop m (zeros (m + n)) ≡ zeros n
 unfolding zeros
@@ -179,10 +167,6 @@ over-front w v n =
 pub over-front-at : (w v : List ℕ) (k m n : ℕ) → k ≡ length w → m ≡ length v + n → over (w ++ zeros m) k v ≡ (w ++ v) ++ zeros n
 over-front-at w v k m n e f = rw (e, f) (over-front w v n)
 
--- the same, with what is left as a difference
-pub over-place : (w v : List ℕ) (k m : ℕ) → length w ≡ k → length v ≤ m → over (w ++ zeros m) k v ≡ (w ++ v) ++ zeros (m - length v)
-over-place w v k m e h = over-front-at w v k m (m - length v) (sym e) (omega arith)
-
 -- two fields that lie side by side; o is the list after the first
 over-of : (o d : List ℕ) (k : ℕ) (s : List ℕ) (j : ℕ) (t : List ℕ) → j ≡ k + length s → take (k + length s) o ≡ take k d ++ s
     → drop (k + length s) o ≡ drop (k + length s) d → over o j t ≡ over d k (s ++ t)
@@ -196,9 +180,6 @@ over-of o d k s j t e p q =
 pub over-over : (d : List ℕ) (k : ℕ) (s : List ℕ) (j : ℕ) (t : List ℕ) → j ≡ k + length s → k ≤ length d
     → over (over d k s) j t ≡ over d k (s ++ t)
 over-over d k s j t e h = over-of (over d k s) d k s j t e (take-over d k s h) (drop-over d k s h)
-
-pub over-beside : (d : List ℕ) (k : ℕ) (s t : List ℕ) → k ≤ length d → over (over d k s) (k + length s) t ≡ over d k (s ++ t)
-over-beside d k s t h = over-over d k s (k + length s) t refl h
 
 -- a call that writes t right behind s: o is the list before the call and p the list after it
 pub over-then : (o p d : List ℕ) (k : ℕ) (s : List ℕ) (j : ℕ) (t : List ℕ) {n : ℕ} → Long s n → o ≡ over d k s → p ≡ over o j t
@@ -224,45 +205,24 @@ over-three d k a b c h =
     rw (over-two d k a b f, over-byte (over d k (a ∷ b ∷ [])) (k + 2) c g)
     (over-over d k (a ∷ b ∷ []) (k + 2) (c ∷ []) refl (omega arith))
 
--- ---- the copy loop
-
--- what a copy of the first i bytes of s leaves
-over-paste : (d : List ℕ) (k : ℕ) (s : List ℕ) (i : ℕ) → i ≤ length s → over d k (take i s) ≡ paste d k s i
-unfolding over
-over-paste d k s i h = rw (length-take-le i s h) (sym (append_assoc (take k d) (take i s) (drop (k + i) d)))
-
 pub over_none : (d : List ℕ) (k : ℕ) → d ≡ over d k []
 unfolding over
 over_none d k = rw add-zero (sym (take-append-drop k d))
 
--- a turn of the copy loop, of the buffer x as it stands
-pub over-more : (x d : List ℕ) (k : ℕ) (s : List ℕ) (i : ℕ) → x ≡ over d k (take i s) → k + length s ≤ length d → i < length s
-    → set x (k + i) (get_or s i 0) ≡ over d k (take (i + 1) s)
-over-more x d k s i e hd hs =
-    let a : i ≤ length s = omega arith in
-    let b : suc i ≤ length s = omega arith in
-    let f : k + i < length d = omega arith in
-    rw (e, add-one, over-paste d k s i a, over-paste d k s (suc i) b) (paste-suc d k s i 0 f hs)
-
-pub over-all : (x d : List ℕ) (k : ℕ) (s : List ℕ) (i : ℕ) → x ≡ over d k (take i s) → length s ≤ i → x ≡ over d k s
-over-all x d k s i e h = rw (take_all i s h) at e
-
--- a part copied out into a
-pub copied_more : (a s : List ℕ) (k i : ℕ) → take i a ≡ part s k i → i < length a → k + i < length s
-    → take (i + 1) (set a i (get_or s (k + i) 0)) ≡ part s k (i + 1)
-copied_more a s k i e ha hs = rw (add-one, take-suc-set a i (get_or s (k + i) 0) ha, e, part-suc s k i hs)
-
-pub copied_all : (a s : List ℕ) (k n i : ℕ) → take i a ≡ part s k i → length a ≡ n → i ≡ n → a ≡ part s k n
-copied_all a s k n i e h g =
-    let f : length a ≤ i = omega arith in
-    sym (take_all i a f) ∙ e ∙ rw g
-
 -- ---- the first bad field answers
+
+pub ok_then : (u : Unit {0}) (b : Validity) → (Ok u then b) ≡ b
+unfolding ◌then◌
+ok_then u b = refl
+
+pub err_then : (e : Refusal) (b : Validity) → (Err e then b) ≡ Err e
+unfolding ◌then◌
+err_then e b = refl
 
 pub then-valid : (a b : Validity) → a then b ≡ Valid → (a ≡ Valid) × (b ≡ Valid)
 unfolding ◌then◌
-then-valid Valid b h = (refl, h)
-then-valid (Refused n p) b h = let z : ◌≡◌ {A = ℕ} 0 1 = cc in absurd (omega arith)
+then-valid (Ok u) b h = (refl, h)
+then-valid (Err e) b h = let z : ◌≡◌ {A = ℕ} 0 1 = cc in absurd (omega arith)
 
 pub valid-then : (a b : Validity) → a ≡ Valid → a then b ≡ b
 unfolding ◌then◌
@@ -272,63 +232,73 @@ pub both-valid : (a b : Validity) → a ≡ Valid → b ≡ Valid → a then b �
 unfolding ◌then◌
 both-valid a b g h = rw (g, h)
 
-pub then-refused : (a b : Validity) (n p : ℕ) → a ≡ Refused n p → a then b ≡ Refused n p
+pub then-refused : (a b : Validity) (n : Reason) (p : ℕ) → a ≡ Refused n p → a then b ≡ Refused n p
 unfolding ◌then◌
 then-refused a b n p h = rw h
 
 pub then-assoc : (a b c : Validity) → (a then b) then c ≡ a then (b then c)
 unfolding ◌then◌
-then-assoc Valid b c = refl
-then-assoc (Refused n p) b c = refl
+then-assoc (Ok u) b c = refl
+then-assoc (Err e) b c = refl
 
 pub then-of-valid : (v : Validity) → v then Valid ≡ v
 unfolding ◌then◌
-then-of-valid Valid = refl
-then-of-valid (Refused n p) = refl
+then-of-valid (Ok u) = refl
+then-of-valid (Err e) = refl
 
-pub unless-valid : (ok : Bool) (number place : ℕ) → unless ok number place ≡ Valid → ok ≡ true
+pub unless-valid : (ok : Bool) (number : Reason) (place : ℕ) → unless ok number place ≡ Valid → ok ≡ true
 unfolding unless
 unless-valid true number place h = refl
 unless-valid false number place h = let z : ◌≡◌ {A = ℕ} 0 1 = cc in absurd (omega arith)
 
-pub unless-passes : (ok : Bool) (number place : ℕ) → ok ≡ true → unless ok number place ≡ Valid
+pub unless-passes : (ok : Bool) (number : Reason) (place : ℕ) → ok ≡ true → unless ok number place ≡ Valid
 unfolding unless
 unless-passes ok number place h = rw h
 
-pub field-inside : (left base k n number : ℕ) (ok : Bool) → k + n ≤ left
+-- a test that a is at most b
+pub unless_fits : (a b : ℕ) (number : Reason) (place : ℕ) → unless (leb a b) number place ≡ Valid → a ≤ b
+unless_fits a b number place h = leb-true a b (unless-valid (leb a b) number place h)
+
+pub unless_refuses : (ok : Bool) (number : Reason) (place : ℕ) (e : Refusal) → unless ok number place ≡ Err e
+    → (ok ≡ false) × (record { reason = number; place = place } ≡ e)
+unfolding unless
+unless_refuses true number place e h = let z : ◌≡◌ {A = ℕ} 0 1 = cc in absurd (omega arith)
+unless_refuses false number place e h = (refl, cc)
+
+pub field-inside : (left base k n : ℕ) (number : Reason) (ok : Bool) → k + n ≤ left
     → field_of left base k n number ok ≡ unless ok number (base + k)
 unfolding field_of
 field-inside left base k n number ok h = rw (le-leb (k + n) left h)
 
-pub field_cut : (left base k n number : ℕ) (ok : Bool) → left < k + n → field_of left base k n number ok ≡ Refused 2 (base + k)
+pub field_cut : (left base k n : ℕ) (number : Reason) (ok : Bool) → left < k + n → field_of left base k n number ok ≡ Refused reason.Cut (base + k)
 unfolding field_of
 field_cut left base k n number ok h = rw (lt-leb (k + n) left h)
 
-pub field-passes : (left base k n number : ℕ) (ok : Bool) → k + n ≤ left → ok ≡ true → field_of left base k n number ok ≡ Valid
+pub field-passes : (left base k n : ℕ) (number : Reason) (ok : Bool) → k + n ≤ left → ok ≡ true → field_of left base k n number ok ≡ Valid
 field-passes left base k n number ok h g = field-inside left base k n number ok h ∙ unless-passes ok number (base + k) g
 
-pub field-valid : (left base k n number : ℕ) (ok : Bool) → field_of left base k n number ok ≡ Valid → (k + n ≤ left) × (ok ≡ true)
+pub field-valid : (left base k n : ℕ) (number : Reason) (ok : Bool) → field_of left base k n number ok ≡ Valid → (k + n ≤ left) × (ok ≡ true)
 unfolding field_of
 field-valid left base k n number ok h = by (leb (k + n) left) refl h
   where
-    by : (t : Bool) → leb (k + n) left ≡ t → cond t (unless ok number (base + k)) (Refused 2 (base + k)) ≡ Valid
+    by : (t : Bool) → leb (k + n) left ≡ t → cond t (unless ok number (base + k)) (Refused reason.Cut (base + k)) ≡ Valid
         → (k + n ≤ left) × (ok ≡ true)
     by true e g = (leb-true (k + n) left e, unless-valid ok number (base + k) g)
     by false e g = let z : ◌≡◌ {A = ℕ} 0 1 = cc in absurd (omega arith)
 
 -- ---- whether nothing is refused, number and place left out
 
-pub valid-by-test : (v : Validity) → is_valid v ≡ true → v ≡ Valid
+pub valid_by_test : (v : Validity) → is_valid v ≡ true → v ≡ Valid
 unfolding is_valid
-valid-by-test Valid h = refl
-valid-by-test (Refused n p) h = let z : ◌≡◌ {A = ℕ} 0 1 = cc in absurd (omega arith)
+valid_by_test (Ok u) h = refl
+valid_by_test (Err e) h = let z : ◌≡◌ {A = ℕ} 0 1 = cc in absurd (omega arith)
 
 pub valid-both : (a b : Validity) → is_valid (a then b) ≡ is_valid a && is_valid b
 unfolding is_valid ◌then◌
-valid-both Valid b = refl
-valid-both (Refused n p) b = refl
+valid-both (Ok u) b = refl
+valid-both (Err e) b = refl
 
-pub valid-unless : (ok : Bool) (number place : ℕ) → is_valid (unless ok number place) ≡ ok
+pub valid-unless : (ok : Bool) (number : Reason) (place : ℕ) → is_valid (unless ok number place) ≡ ok
 unfolding is_valid unless
 valid-unless true number place = refl
 valid-unless false number place = refl
@@ -337,10 +307,10 @@ pub valid-cond : (t : Bool) (a b : Validity) → is_valid (cond t a b) ≡ cond 
 valid-cond true a b = refl
 valid-cond false a b = refl
 
-pub valid-field : (left base k n number : ℕ) (ok : Bool) → is_valid (field_of left base k n number ok) ≡ leb (k + n) left && ok
+pub valid-field : (left base k n : ℕ) (number : Reason) (ok : Bool) → is_valid (field_of left base k n number ok) ≡ leb (k + n) left && ok
 unfolding field_of is_valid
 valid-field left base k n number ok =
-    valid-cond (leb (k + n) left) (unless ok number (base + k)) (Refused 2 (base + k))
+    valid-cond (leb (k + n) left) (unless ok number (base + k)) (Refused reason.Cut (base + k))
     ∙ rw (valid-unless ok number (base + k)) (at (leb (k + n) left))
   where
     at : (t : Bool) → cond t ok false ≡ t && ok
@@ -410,7 +380,7 @@ pub each_next : (rule : ℕ → Validity) (n i w p : ℕ) (all v : Validity) →
 each_next rule n i w p all v h e f g =
     e ∙ each_step rule n i w p h ∙ valid-then (rule p) (each rule (n - (i + 1)) w (p + w)) (sym f ∙ g)
 
-pub each-bad : (rule : ℕ → Validity) (n i w p : ℕ) (all v : Validity) (a b : ℕ) → i < n → all ≡ each rule (n - i) w p → v ≡ rule p
+pub each-bad : (rule : ℕ → Validity) (n i w p : ℕ) (all v : Validity) (a : Reason) (b : ℕ) → i < n → all ≡ each rule (n - i) w p → v ≡ rule p
     → v ≡ Refused a b → v ≡ all
 each-bad rule n i w p all v a b h e f g =
     g ∙ sym (e ∙ each_step rule n i w p h ∙ then-refused (rule p) (each rule (n - (i + 1)) w (p + w)) a b (sym f ∙ g))
@@ -430,10 +400,10 @@ valid-step rule i w p q ok more e f g =
 pub valid-end : (rule : ℕ → Validity) (n i w p : ℕ) (ok : Bool) → ok ≡ is_valid (each rule i w p) → i ≤ n → n ≤ i → ok ≡ true
     → each rule n w p ≡ Valid
 valid-end rule n i w p ok e g h t =
-    sym (each-end rule n i w p (each rule i w p) refl g h) ∙ valid-by-test (each rule i w p) (sym e ∙ t)
+    sym (each-end rule n i w p (each rule i w p) refl g h) ∙ valid_by_test (each rule i w p) (sym e ∙ t)
 
 -- the first bad record answers
-pub each-stop : (rule : ℕ → Validity) (n w p i a b : ℕ) → i < n → ((j : ℕ) → j < i → rule (p + j * w) ≡ Valid)
+pub each-stop : (rule : ℕ → Validity) (n w p i : ℕ) (a : Reason) (b : ℕ) → i < n → ((j : ℕ) → j < i → rule (p + j * w) ≡ Valid)
     → rule (p + i * w) ≡ Refused a b → each rule n w p ≡ Refused a b
 each-stop rule n w p i a b h g e =
     let f : n ≡ i + (n - i) = omega arith in
@@ -442,6 +412,32 @@ each-stop rule n w p i a b h g e =
     ∙ valid-then (each rule i w p) (each rule (n - i) w (p + i * w)) (each-passes rule i w p g)
     ∙ each_step rule n i w (p + i * w) h
     ∙ then-refused (rule (p + i * w)) (each rule (n - (i + 1)) w (p + i * w + w)) a b e
+
+-- a loop over n records that stops at the first refusal, after i that are valid
+pub each_more : (rule : ℕ → Validity) (i w p : ℕ) → each rule i w p ≡ Valid → rule (p + i * w) ≡ Valid → each rule (i + 1) w p ≡ Valid
+each_more rule i w p g h = each_last rule i w p ∙ both-valid (each rule i w p) (rule (p + i * w)) g h
+
+pub each_refused : (rule : ℕ → Validity) (n i w p : ℕ) (e : Refusal) → i < n → each rule i w p ≡ Valid → rule (p + i * w) ≡ Err e
+    → each rule n w p ≡ Err e
+each_refused rule n i w p e h g f =
+    let d : n ≡ i + (n - i) = omega arith in
+    ap (λ (m : ℕ). each rule m w p) d
+    ∙ each-split rule i (n - i) w p
+    ∙ valid-then (each rule i w p) (each rule (n - i) w (p + i * w)) g
+    ∙ each_step rule n i w (p + i * w) h
+    ∙ then-refused (rule (p + i * w)) (each rule (n - (i + 1)) w (p + i * w + w)) e.reason e.place f
+
+-- a loop over n records that says whether the first i are valid
+pub valid_none : (rule : ℕ → Validity) (w p : ℕ) → true ≡ is_valid (each rule 0 w p)
+unfolding each is_valid
+valid_none rule w p = refl
+
+pub valid_more : (rule : ℕ → Validity) (i w p : ℕ)
+    → is_valid (each rule (i + 1) w p) ≡ is_valid (each rule i w p) && is_valid (rule (p + i * w))
+valid_more rule i w p = ap is_valid (each_last rule i w p) ∙ valid-both (each rule i w p) (rule (p + i * w))
+
+pub valid_all : (rule : ℕ → Validity) (n w p : ℕ) (ok : Bool) → ok ≡ is_valid (each rule n w p) → ok ≡ true → each rule n w p ≡ Valid
+valid_all rule n w p ok e t = valid_by_test (each rule n w p) (sym e ∙ t)
 
 -- rules that agree at each record
 pub each_same : (f g : ℕ → Validity) (n w p : ℕ) → ((i : ℕ) → i < n → f (p + i * w) ≡ g (p + i * w)) → each f n w p ≡ each g n w p
@@ -462,14 +458,22 @@ pub written-valid : (v : Validity) (out s : List ℕ) → v ≡ Valid → writte
 unfolding written
 written-valid v out s h = rw h
 
-pub written-refused : (v : Validity) (out s : List ℕ) (n p : ℕ) → v ≡ Refused n p → written v out s ≡ out
+pub written-refused : (v : Validity) (out s : List ℕ) (n : Reason) (p : ℕ) → v ≡ Refused n p → written v out s ≡ out
 unfolding written
 written-refused v out s n p h = rw h
 
+pub written_ok : (u : Unit {0}) (out s : List ℕ) → written (Ok u) out s ≡ over out 0 s
+unfolding written
+written_ok u out s = refl
+
+pub written_err : (e : Refusal) (out s : List ℕ) → written (Err e) out s ≡ out
+unfolding written
+written_err e out s = refl
+
 pub length-written : (v : Validity) (out s : List ℕ) → length s ≤ length out → length (written v out s) ≡ length out
 unfolding written
-length-written Valid out s h = length_over out 0 s (omega arith)
-length-written (Refused n p) out s h = refl
+length-written (Ok u) out s h = length_over out 0 s (omega arith)
+length-written (Err e) out s h = refl
 
 -- ---- bytes
 
@@ -588,12 +592,6 @@ num-at a c k n x h g = ap little (part_at a (little_bytes n x) c k n h (length-l
 pub num-front : (c : List ℕ) (n x : ℕ) → x < 256 ^ n → num (little_bytes n x ++ c) 0 n ≡ x
 num-front c n x g = num-at [] c 0 n x refl g
 
-pub little_bytes-add : (m n x : ℕ) → little_bytes (m + n) x ≡ little_bytes m x ++ little_bytes n (x / 256 ^ m)
-unfolding little_bytes
-little_bytes-add zero n x = rw (zero-add, pow-zero, div-one)
-little_bytes-add (suc m) n x =
-    rw (suc-add, pow-succ', ← div-div-eq-div-mul x 256 (256 ^ m), little_bytes-add m n (x / 256))
-
 -- the high bytes do not count
 pub little_bytes-mod : (n x : ℕ) → little_bytes n (x % 256 ^ n) ≡ little_bytes n x
 unfolding little_bytes
@@ -647,27 +645,12 @@ big-big_bytes (suc n) x h =
     let f : x / 256 < 256 ^ n = omega arith in
     rw (big_from-append 0 (big_bytes n (x / 256)) (x % 256 ∷ []), big-big_bytes n (x / 256) f) (omega arith)
 
-pub big-at : (a c : List ℕ) (k n x : ℕ) → length a ≡ k → x < 256 ^ n → big (part (a ++ (big_bytes n x ++ c)) k n) ≡ x
-big-at a c k n x h g = ap (λ (l : List ℕ). big l) (part_at a (big_bytes n x) c k n h (length-big_bytes n x)) ∙ big-big_bytes n x g
-
-pub big-front : (c : List ℕ) (n x : ℕ) → x < 256 ^ n → big (part (big_bytes n x ++ c) 0 n) ≡ x
-big-front c n x g = big-at [] c 0 n x refl g
-
 pub big_bytes-add : (m n x : ℕ) → big_bytes (m + n) x ≡ big_bytes m (x / 256 ^ n) ++ big_bytes n x
 unfolding big_bytes
 big_bytes-add m zero x = rw (add-zero, pow-zero, div-one) (sym (append-nil (big_bytes m x)))
 big_bytes-add m (suc n) x =
     rw (add-suc, pow-succ', ← div-div-eq-div-mul x 256 (256 ^ n), big_bytes-add m n (x / 256))
     (append_assoc (big_bytes m (x / 256 / 256 ^ n)) (big_bytes n (x / 256)) (x % 256 ∷ []))
-
-pub big_bytes-mod : (n x : ℕ) → big_bytes n (x % 256 ^ n) ≡ big_bytes n x
-unfolding big_bytes
-big_bytes-mod zero x = refl
-big_bytes-mod (suc n) x =
-    let e : x % 256 ^ suc n ≡ (x / 256 % 256 ^ n) * 256 + x % 256 = rw pow-suc (mod-mul x (pow-pos-256 n) (omega arith)) in
-    let f : ((x / 256 % 256 ^ n) * 256 + x % 256) % 256 ≡ x % 256 = omega arith in
-    let g : ((x / 256 % 256 ^ n) * 256 + x % 256) / 256 ≡ x / 256 % 256 ^ n = omega arith in
-    rw (e, f, g, big_bytes-mod n (x / 256))
 
 -- the high byte in front
 pub big_bytes-suc : (n x : ℕ) → big_bytes (suc n) x ≡ x / 256 ^ n % 256 ∷ big_bytes n x
@@ -689,67 +672,81 @@ big_bytes-big_from h (b ∷ s) g =
 pub big_bytes-big : (s : List ℕ) → AllBytes s → big_bytes (length s) (big s) ≡ s
 big_bytes-big s h = big_bytes-big_from 0 s h
 
--- ---- numbers written over a buffer
-
-pub over-le16 : (d : List ℕ) (k x : ℕ) → k + 2 ≤ length d → x < 2 ^ 16
-    → set (set d k (x % 256)) (k + 1) (x / 256) ≡ over d k (little_bytes 2 x)
-unfolding little_bytes
-over-le16 d k x h g =
-    let f : x / 256 % 256 ≡ x / 256 = omega arith in
-    rw f (over-two d k (x % 256) (x / 256) h)
-
-pub over-be24 : (d : List ℕ) (k x : ℕ) → k + 3 ≤ length d
-    → set (set (set d k (x / 65536 % 256)) (k + 1) (x / 256 % 256)) (k + 2) (x % 256) ≡ over d k (big_bytes 3 x)
-unfolding big_bytes
-over-be24 d k x h =
-    rw (div-div-eq-div-mul x 256 256) (over-three d k (x / 65536 % 256) (x / 256 % 256) (x % 256) h)
-
--- the low m bytes and then the n above them; o is the list after the first writing and p after the second
-pub over-little : (o p d : List ℕ) (k m n x : ℕ) → o ≡ over d k (little_bytes m (x % 256 ^ m))
-    → p ≡ over o (k + m) (little_bytes n (x / 256 ^ m)) → k ≤ length d → p ≡ over d k (little_bytes (m + n) x)
-over-little o p d k m n x e f h =
-    let g : k + m ≡ k + length (little_bytes m x) = rw (length-little_bytes m x) in
-    rw (f, e, little_bytes-mod m x, little_bytes-add m n x)
-    (over-over d k (little_bytes m x) (k + m) (little_bytes n (x / 256 ^ m)) g h)
-
--- the high m bytes and then the n below them
-pub over-big : (o p d : List ℕ) (k m n x : ℕ) → o ≡ over d k (big_bytes m (x / 256 ^ n))
-    → p ≡ over o (k + m) (big_bytes n (x % 256 ^ n)) → k ≤ length d → p ≡ over d k (big_bytes (m + n) x)
-over-big o p d k m n x e f h =
-    let g : k + m ≡ k + length (big_bytes m (x / 256 ^ n)) = rw (length-big_bytes m (x / 256 ^ n)) in
-    rw (f, e, big_bytes-mod n x, big_bytes-add m n x)
-    (over-over d k (big_bytes m (x / 256 ^ n)) (k + m) (big_bytes n x) g h)
-
 -- ---- numbers read out of bytes
 
 pub num-two : (s : List ℕ) (k a b : ℕ) → a ≡ get_or s k 0 → b ≡ get_or s (k + 1) 0 → a + 256 * b ≡ num s k 2
 num-two s k a b e f = rw (e, f, num-suc s k 1, add-one, num-one s (suc k))
 
--- the low m bytes and the n above them
-pub num-parts : (s : List ℕ) (k m n a b : ℕ) → a ≡ num s k m → b ≡ num s (k + m) n → a + 256 ^ m * b ≡ num s k (m + n)
-num-parts s k m n a b e f = rw (e, f, num-add s k m n)
-
--- six bytes, high byte first
-six-bytes : (s : List ℕ) (k : ℕ) → k + 6 ≤ length s
-    → part s k 6
-    ≡ get_or s k 0 ∷ get_or s (k + 1) 0 ∷ get_or s (k + 2) 0 ∷ get_or s (k + 3) 0 ∷ get_or s (k + 4) 0 ∷ get_or s (k + 5) 0 ∷ []
-six-bytes s k h =
-    part-cons s k 5 (omega arith)
-    ∙ rw (
-      ← add-one k,
-      part-next s k 1 4 (omega arith),
-      part-next s k 2 3 (omega arith),
-      part-next s k 3 2 (omega arith),
-      part-next s k 4 1 (omega arith),
-      part-next s k 5 0 (omega arith),
-    )
-
-pub big-six : (s : List ℕ) (k a b c d e f : ℕ) → k + 6 ≤ length s → a ≡ get_or s k 0 → b ≡ get_or s (k + 1) 0 → c ≡ get_or s (k + 2) 0
-    → d ≡ get_or s (k + 3) 0 → e ≡ get_or s (k + 4) 0 → f ≡ get_or s (k + 5) 0
-    → ((a * 256 + b) * 65536 + (c * 256 + d)) * 65536 + (e * 256 + f) ≡ big (part s k 6)
-unfolding big_from
-big-six s k a b c d e f h ea eb ec ed ee ef = rw (six-bytes s k h, ea, eb, ec, ed, ee, ef) (omega arith)
-
 -- s written over the front of zeros
 pub over-fresh : (s : List ℕ) (m n : ℕ) → length s ≡ m → over (zeros (m + n)) 0 s ≡ s ++ zeros n
 over-fresh s m n e = over_zero (zeros (m + n)) s ∙ rw (e, drop-zeros m n)
+
+-- ---- what the library's methods say, in these words
+
+-- after a method of the n bytes at k: t is what they hold now
+pub written_part : (d t s : List ℕ) (k n : ℕ) → t ≡ s → n ≡ length s → put_mid k n d t ≡ over d k s
+unfolding over
+written_part d t s k n e f = rw (e, f, drop-drop (length s) k d)
+
+-- after `fill(0)`
+pub cleared_part : (d t : List ℕ) (k n w : ℕ) → t ≡ replicate (length (part d k w)) 0 → w ≡ n → k + n ≤ length d → put_mid k w d t ≡ over d k (zeros n)
+unfolding zeros
+cleared_part d t k n w e f h =
+    let l : length (part d k w) ≡ n = rw f (length_part d k n h) in
+    written_part d t (zeros n) k w (rw l at e) (f ∙ sym (length-zeros n))
+
+-- what a copy of the first i bytes of s leaves
+over-paste : (d : List ℕ) (k : ℕ) (s : List ℕ) (i : ℕ) → i ≤ length s → over d k (take i s) ≡ paste d k s i
+unfolding over
+over-paste d k s i h = rw (length-take-le i s h) (sym (append_assoc (take k d) (take i s) (drop (k + i) d)))
+
+-- the n bytes at from copied to a place of the same buffer
+pub moved_part : (d : List ℕ) (from to n : ℕ) → from + n ≤ length d → copy_within d from (from + n) to ≡ over d to (part d from n)
+moved_part d from to n h =
+    let e : from + n - from ≡ n = omega arith in
+    rw e (sym (over-paste d to (drop from d) n (simp length-drop (omega arith))))
+
+-- n bytes from the byte i on
+low-first : (i n x : ℕ) → bytes_low_first i n x ≡ little_bytes n (x / 256 ^ i)
+unfolding little_bytes
+low-first i zero x = refl
+low-first zero (suc n) x = rw (div-one x, low-first 1 n x)
+low-first (suc i) (suc n) x =
+    rw (low-first (suc (suc i)) n x, div-div-eq-div-mul x (256 ^ suc i) 256, ← pow-suc 256 (suc i))
+
+pub to_le-little : (w : Width) (x : ℕ) → to_le_bytes w x ≡ little_bytes (byte_len w) x
+to_le-little w x = low-first 0 (byte_len w) x ∙ rw (pow-zero, div-one)
+
+-- the low n bytes of x, as `to_be_bytes` ends
+pub to_be-big : (n x : ℕ) → bytes_high_first n x ≡ big_bytes n x
+unfolding big_bytes
+to_be-big zero x = refl
+to_be-big (suc zero) x = refl
+to_be-big (suc (suc n)) x = rw (to_be-big (suc n) x) (sym (big_bytes-suc (suc n) x))
+
+-- `from_le_bytes` of m + 1 bytes, those of s at k
+pub from_le-num : (a s : List ℕ) (k m : ℕ) → ((i : ℕ) → i < suc m → get_or a i 0 ≡ get_or s (k + i) 0)
+    → sum_through (λ i. byte_worth i (slice_index a i)) m ≡ num s k (suc m)
+from_le-num a s k zero h = h 0 (omega arith) ∙ rw (add-zero, num-one)
+from_le-num a s k (suc m) h =
+    let low = from_le-num a s k m (λ i l. h i (omega arith)) in
+    let high = h (suc m) (omega arith) in
+    rw (low, high, ← add-one (suc m), num-add s k (suc m) 1, num-one s (k + suc m)) (omega arith)
+
+worth : (i b : ℕ) → byte_worth i b ≡ b * 256 ^ i
+worth zero b = rw pow-zero (omega arith)
+worth (suc i) b = refl
+
+-- the first m + 1 bytes of a, with c bytes below them
+high-worth : (a : List ℕ) (m c x : ℕ) → x ≡ c + m → suc m ≤ length a
+    → sum_through (λ i. byte_worth (x - i) (slice_index a i)) m ≡ big (take (suc m) a) * 256 ^ c
+unfolding big_from
+high-worth a zero c x e h = rw (e, sub-zero, add-zero, worth, take-suc a 0 0 h) (omega arith)
+high-worth a (suc m) c x e h =
+    let f : x - suc m ≡ c = omega arith in
+    let high = high-worth a m (suc c) x (omega arith) (omega arith) in
+    rw (f, worth c (slice_index a (suc m)), high, take-suc a (suc m) 0 h, big_from-append, pow-succ') (omega arith)
+
+-- `from_be_bytes` of m + 1 bytes
+pub from_be-big : (a : List ℕ) (m : ℕ) → length a ≡ suc m → sum_through (λ i. byte_worth (m - i) (slice_index a i)) m ≡ big a
+from_be-big a m e = high-worth a m 0 m (sym (zero-add m)) (omega arith) ∙ rw (pow-zero, take_all (suc m) a (omega arith)) (omega arith)

@@ -1,15 +1,8 @@
 // The first bad field answers (document 01, "The refusals, by number").
 ghost use Rattle.std.specs.Prelude.{◌≡◌, cond, ◌+◌, ◌<◌, ◌^◌};
-ghost use Rattle.fields.specs.Rule.{◌then◌, unless, field_of};
+ghost use Rattle.fields.specs.Rule.{unless, field_of};
 
-use format::refusals::CUT;
-
-// Whether something is valid. A refusal, document 01's word for an error, has its number there and its place.
-#[derive(Clone, Copy)]
-pub enum Validity {
-    Valid,
-    Refused(u8, usize),
-}
+use format::refusals::{Reason, Refusal};
 
 // a where the test holds, else b; without a branch.
 pub fn pick(test: bool, a: bool, b: bool) -> bool
@@ -18,35 +11,35 @@ pub fn pick(test: bool, a: bool, b: bool) -> bool
     (test & a) | (!test & b)
 }
 
-// The first refusal of two.
-pub fn first(a: Validity, b: Validity) -> Validity
-    ensures { result ≡ a then b }
-{
-    match a {
-        Validity::Valid => b,
-        Validity::Refused(n, p) => Validity::Refused(n, p),
-    }
-}
-
 // A refusal, unless the test holds.
-pub fn unless(ok: bool, number: u8, place: usize) -> Validity
-    ensures { result ≡ unless ok number place }
+pub fn unless(ok: bool, reason: Reason, place: usize) -> Result<(), Refusal>
+    ensures { result ≡ unless ok reason place }
 {
     if ok {
-        Validity::Valid
+        Ok(())
     } else {
-        Validity::Refused(number, place)
+        Err(Refusal { reason, place })
     }
 }
 
 // The field of n bytes at k of a record that starts at base and has so many bytes left.
-pub fn field(left: usize, base: usize, k: usize, n: usize, number: u8, ok: bool) -> Validity
+pub fn field(
+    left: usize,
+    base: usize,
+    k: usize,
+    n: usize,
+    reason: Reason,
+    ok: bool,
+) -> Result<(), Refusal>
     requires { (base < 2 ^ 62) × ((k < 2 ^ 32) × (n < 2 ^ 32)) }
-    ensures { result ≡ field_of left base k n number ok }
+    ensures { result ≡ field_of left base k n reason ok }
 {
     if k + n <= left {
-        unless(ok, number, base + k)
+        unless(ok, reason, base + k)
     } else {
-        Validity::Refused(CUT, base + k)
+        Err(Refusal {
+            reason: Reason::Cut,
+            place: base + k,
+        })
     }
 }

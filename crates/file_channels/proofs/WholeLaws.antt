@@ -6,9 +6,9 @@ use mathlib.Core.List.{List}
 use lib.ListN.{get_or}
 use lib.Dec.{ltb, eqb}
 use Rattle.channel.specs.Values.{contact_index_of}
-use Rattle.channel.specs.declared.ContactIndex.TheVariants.{Nobody, Index}
 use Rattle.layout.specs.Places.{contact_count, contact_place}
 use Rattle.file_rule.specs.File.{names_contact}
+use Rattle.std.specs.Prelude.{Some, None}
 
 -- the kind of contact i, where there is one, is that of the contact looked at
 looked : (kind : ℕ → Bool) (i : ℕ) (below : Bool) → below && kind (cond below i 0) ≡ below && kind i
@@ -23,7 +23,7 @@ names-index f m i = at (eqb i 65535)
     named : Bool
     named = ltb i (contact_count f) && eqb (get_or f (contact_place i + 32) 0) m
 
-    at : (t : Bool) → names_contact f m (cond t Nobody (Index i)) ≡ t || named
+    at : (t : Bool) → names_contact f m (cond t None (Some i)) ≡ t || named
     at true = refl
     at false = refl
 

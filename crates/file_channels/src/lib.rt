@@ -7,26 +7,27 @@ ghost use Rattle.std.specs.Prelude.{◌≡◌, ◌<◌, ◌^◌};
 ghost use Rattle.file_rule.specs.File.{names_contact, index_ok, channel_at, channels_rule};
 
 use crate::whole::{channel_valid, channels_valid};
-use channel::ContactIndex;
 use channel::values::named_contact;
 use fields::numbers::byte_at;
-use fields::rule::Validity;
+use format::refusals::Refusal;
 use format::sizes::CHANNEL_SIZE;
 use layout::places::{channel_count, channel_place, contact_count, contact_place, record_bytes};
 
 // Whether a channel's contact index names a contact of the channel's mode.
-fn names_contact(f: &[u8], mode: u8, c: ContactIndex) -> bool
+#[tactic(auto, unfolding(file_rule::specs::File::names_contact))]
+fn names_contact(f: &[u8], mode: u8, c: Option<u16>) -> bool
     ensures { result ≡ names_contact f.now mode c }
 {
     match c {
-        ContactIndex::Nobody => true,
-        ContactIndex::Index(i) => {
+        None => true,
+        Some(i) => {
             let at = i as usize;
             at < contact_count(f) && byte_at(f, contact_place(at) + 32) == mode
         }
     }
 }
 
+#[tactic(auto, unfolding(file_rule::specs::File::index_ok))]
 pub fn index_ok(f: &[u8], s: &[u8]) -> bool
     ensures { result ≡ index_ok f.now s.now }
 {
@@ -34,7 +35,7 @@ pub fn index_ok(f: &[u8], s: &[u8]) -> bool
 }
 
 // The channel at p, field by field.
-fn channel_fields(f: &[u8], p: usize) -> Validity
+fn channel_fields(f: &[u8], p: usize) -> Result<(), Refusal>
     requires { p < 2 ^ 62 }
     ensures { result ≡ channel_at f.now p }
 {
@@ -43,41 +44,36 @@ fn channel_fields(f: &[u8], p: usize) -> Validity
 }
 
 // The channel at p: its fields are looked at one by one only where it is not valid.
-pub fn channel_at(f: &[u8], p: usize) -> Validity
+#[tactic(auto, using(fields::proofs::Laws::valid_by_test))]
+pub fn channel_at(f: &[u8], p: usize) -> Result<(), Refusal>
     requires { p < 2 ^ 62 }
     ensures { result ≡ channel_at f.now p }
 {
     if p + CHANNEL_SIZE <= f.len() {
         if channel_valid(f, p, contact_count(f)) {
-            return Validity::Valid;
+            return Ok(());
         }
     }
     channel_fields(f, p)
 }
 
 // The first bad channel.
-fn find_channel(f: &[u8]) -> Validity
+#[tactic(auto, unfolding(file_rule::specs::File::channels_rule), using(fields::proofs::Laws::each_more, fields::proofs::Laws::each_refused, fields::proofs::Laws::each_none))]
+fn find_channel(f: &[u8]) -> Result<(), Refusal>
     ensures { result ≡ channels_rule f.now }
 {
-    let channels = channel_count(f);
-    let mut i = 0;
-    let mut p = channel_place(f, 0);
-    while i < channels {
-        let v = channel_fields(f, p);
-        if let Validity::Refused(_, _) = v {
-            return v;
-        }
-        i += 1;
-        p += CHANNEL_SIZE;
+    let start = channel_place(f, 0);
+    for i in 0..channel_count(f) {
+        channel_fields(f, start + i * CHANNEL_SIZE)?;
     }
-    Validity::Valid
+    Ok(())
 }
 
-pub fn validate_channels(f: &[u8]) -> Validity
+pub fn validate_channels(f: &[u8]) -> Result<(), Refusal>
     ensures { result ≡ channels_rule f.now }
 {
     if channels_valid(f) {
-        return Validity::Valid;
+        return Ok(());
     }
     find_channel(f)
 }

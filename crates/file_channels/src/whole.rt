@@ -1,8 +1,7 @@
 // Whether all channels of a file are valid, asked before the first bad one is looked for. Nothing branches on the channels' bytes.
 ghost use Rattle.std.specs.Prelude.{◌≡◌, true, cond, ◌+◌, ◌≤◌, length, get_or};
 ghost use Rattle.fields.specs.Bytes.{num};
-ghost use Rattle.fields.specs.Rule.{is_valid};
-ghost use Rattle.fields.specs.declared.rule.Validity.TheVariants.{Valid};
+ghost use Rattle.fields.specs.Rule.{Valid, is_valid};
 ghost use Rattle.layout.specs.Places.{contact_count};
 ghost use Rattle.channel.specs.Values.{contact_index_of, contact_index_place};
 ghost use Rattle.file_rule.specs.File.{names_contact, channel_at, channels_rule};
@@ -42,6 +41,7 @@ pub(crate) fn channel_valid(f: &[u8], p: usize, contacts: usize) -> bool
 }
 
 // Yes only where every channel is valid.
+#[tactic(auto, unfolding(file_rule::specs::File::channels_rule), using(fields::proofs::Laws::valid_more, fields::proofs::Laws::valid_all, fields::proofs::Laws::valid_none))]
 pub(crate) fn channels_valid(f: &[u8]) -> bool
     ensures { result ≡ true → channels_rule f.now ≡ Valid }
 {
@@ -52,12 +52,8 @@ pub(crate) fn channels_valid(f: &[u8]) -> bool
         return false;
     }
     let mut ok = true;
-    let mut i = 0;
-    let mut p = start;
-    while i < channels {
-        ok = ok & channel_valid(f, p, contacts);
-        i += 1;
-        p += CHANNEL_SIZE;
+    for i in 0..channels {
+        ok &= channel_valid(f, start + i * CHANNEL_SIZE, contacts);
     }
     ok
 }

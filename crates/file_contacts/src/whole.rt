@@ -1,11 +1,11 @@
 // Whether all contacts of a file are valid, asked before the first bad one is looked for. Nothing branches on the contacts' bytes.
 ghost use Rattle.std.specs.Prelude.{◌≡◌, true, ◌+◌, ◌≤◌, length};
 ghost use Rattle.fields.specs.Rule.{is_valid};
-ghost use Rattle.fields.specs.declared.rule.Validity.TheVariants.{Valid};
+ghost use Rattle.fields.specs.Rule.{Valid};
 ghost use Rattle.file_rule.specs.File.{contact_at, contacts_rule};
 
-use format::sizes::{CONTACT_SIZE, HEADER_SIZE};
-use layout::places::contact_count;
+use format::sizes::CONTACT_SIZE;
+use layout::places::{contact_count, contact_place};
 use m17::Edition;
 
 pub(crate) fn contact_valid(f: &[u8], p: usize, edition: Edition) -> bool
@@ -16,20 +16,17 @@ pub(crate) fn contact_valid(f: &[u8], p: usize, edition: Edition) -> bool
 }
 
 // Yes only where every contact is valid.
+#[tactic(auto, unfolding(file_rule::specs::File::contacts_rule, layout::specs::Places::contact_place), using(fields::proofs::Laws::valid_more, fields::proofs::Laws::valid_all, fields::proofs::Laws::valid_none))]
 pub(crate) fn contacts_valid(f: &[u8], edition: Edition) -> bool
     ensures { result ≡ true → contacts_rule edition f.now ≡ Valid }
 {
     let contacts = contact_count(f);
-    if f.len() < HEADER_SIZE + contacts * CONTACT_SIZE {
+    if f.len() < contact_place(contacts) {
         return false;
     }
     let mut ok = true;
-    let mut i = 0;
-    let mut p = HEADER_SIZE;
-    while i < contacts {
-        ok = ok & contact_valid(f, p, edition);
-        i += 1;
-        p += CONTACT_SIZE;
+    for i in 0..contacts {
+        ok &= contact_valid(f, contact_place(i), edition);
     }
     ok
 }

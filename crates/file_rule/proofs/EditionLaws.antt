@@ -9,8 +9,6 @@ use native.Mathlib.Omega.{arith}
 use lib.Dec.{leb, eqb}
 use Rattle.fields.specs.Bytes.{part, big}
 use Rattle.fields.specs.Rule.{◌then◌, unless, field_of, each}
-use Rattle.fields.specs.declared.rule.Validity.{Validity}
-use Rattle.fields.specs.declared.rule.Validity.TheVariants.{Valid, Refused}
 use Rattle.fields.proofs.Laws.{each-passes}
 use Rattle.m17.specs.declared.Edition.TheVariants.{Older, Newer}
 use Rattle.m17.specs.Address.{address_ok}
@@ -20,16 +18,19 @@ use Rattle.contact.proofs.Laws.{ValidInfo, contact-valid, dmr-passes, m17-passes
 use Rattle.layout.specs.Places.{contact_count, contact_place}
 use Rattle.file_rule.specs.File.{contact_at, contacts_rule, file_rule}
 use Rattle.file_rule.proofs.Laws.{file-valid, file-passes, contact-walks, contact-there}
+use Rattle.std.specs.Prelude.{Ok, Err}
+use Rattle.format.specs.declared.refusals.Reason.TheVariants as reason
+use Rattle.fields.specs.Rule.{Validity, Valid, Refused}
 
 -- the older's validity and the newer's
 abbrev pub SameOrEight : Validity → Validity → Type 0
-SameOrEight a b = (a ≡ b) ⊎ ((p : ℕ) × (a ≡ Refused 8 p))
+SameOrEight a b = (a ≡ b) ⊎ ((p : ℕ) × (a ≡ Refused reason.Address p))
 
 then-either : (a b c d : Validity) → SameOrEight a b → SameOrEight c d → SameOrEight (a then c) (b then d)
 unfolding ◌then◌
-then-either Valid b c d (inl e) (inl g) = inl (rw (← e) g)
-then-either Valid b c d (inl e) (inr g) = inr g
-then-either (Refused n p) b c d (inl e) h = inl (rw (← e) refl)
+then-either (Ok u) b c d (inl e) (inl g) = inl (rw (← e) g)
+then-either (Ok u) b c d (inl e) (inr g) = inr g
+then-either (Err e') b c d (inl e) h = inl (rw (← e) refl)
 then-either a b c d (inr (p, e)) h = inr (p, rw e refl)
 
 each-either : (g h : ℕ → Validity) → ((p : ℕ) → SameOrEight (g p) (h p)) → (n w p : ℕ) → SameOrEight (each g n w p) (each h n w p)
@@ -38,12 +39,12 @@ each-either g h k zero w p = inl refl
 each-either g h k (suc n) w p = then-either (g p) (h p) (each g n w (p + w)) (each h n w (p + w)) (k p) (each-either g h k n w (p + w))
 
 -- a field of number 8: whatever the older's test takes the newer's takes
-field-either : (left base k n : ℕ) (a b : Bool) → (a ≡ true → b ≡ true) → SameOrEight (field_of left base k n 8 a) (field_of left base k n 8 b)
+field-either : (left base k n : ℕ) (a b : Bool) → (a ≡ true → b ≡ true) → SameOrEight (field_of left base k n reason.Address a) (field_of left base k n reason.Address b)
 unfolding field_of
 field-either left base k n a b h = by (leb (k + n) left) a b h
   where
     by : (i a b : Bool) → (a ≡ true → b ≡ true)
-        → SameOrEight (cond i (unless a 8 (base + k)) (Refused 2 (base + k))) (cond i (unless b 8 (base + k)) (Refused 2 (base + k)))
+        → SameOrEight (cond i (unless a reason.Address (base + k)) (Refused reason.Cut (base + k))) (cond i (unless b reason.Address (base + k)) (Refused reason.Cut (base + k)))
     by true true b h = inl (rw (h refl))
     by true false b h = inr (base + k, unfold unless in refl)
     by false a b h = inl refl

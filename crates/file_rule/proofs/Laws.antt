@@ -7,7 +7,6 @@ use lib.ListN.{length, get_or}
 use lib.Dec.{leb}
 use borrow.Author.Tests.{le-leb, leb-true}
 use Rattle.fields.specs.Bytes.{part, num}
-use Rattle.fields.specs.declared.rule.Validity.TheVariants.{Valid}
 use Rattle.fields.proofs.Laws.{then-valid, both-valid, unless-valid, unless-passes, each-valid}
 use Rattle.m17.specs.declared.Edition.{Edition}
 use Rattle.contact.proofs.RoundTrip as contact
@@ -19,6 +18,8 @@ use Rattle.layout.specs.Header.{header_rule}
 use Rattle.layout.specs.Banks.{offsets_rule, banks_rule}
 use Rattle.layout.proofs.Laws.{header-length}
 use Rattle.file_rule.specs.File.{contact_at, contacts_rule, names_contact, index_ok, channel_at, channels_rule, file_rule}
+use Rattle.format.specs.declared.refusals.Reason.TheVariants as reason
+use Rattle.fields.specs.Rule.{Valid}
 
 -- ---- the parts of an accepted file
 
@@ -39,7 +40,7 @@ file-valid ed f h =
     let d = then-valid _ _ c.1 in
     let e = then-valid _ _ d.1 in
     record {
-      short = leb-true (length f) 1_048_576 (unless-valid (leb (length f) 1_048_576) 1 0 a.0);
+      short = leb-true (length f) 1_048_576 (unless-valid (leb (length f) 1_048_576) reason.TooLong 0 a.0);
       header = b.0;
       contacts = c.0;
       channels = d.0;
@@ -50,7 +51,7 @@ file-valid ed f h =
 pub file-passes : (ed : Edition) (f : List ℕ) → ValidFile ed f → file_rule ed f ≡ Valid
 unfolding file_rule
 file-passes ed f g =
-    both-valid _ _ (unless-passes (leb (length f) 1_048_576) 1 0 (le-leb (length f) 1_048_576 g.short))
+    both-valid _ _ (unless-passes (leb (length f) 1_048_576) reason.TooLong 0 (le-leb (length f) 1_048_576 g.short))
     (both-valid _ _ g.header
     (both-valid _ _ g.contacts (both-valid _ _ g.channels (both-valid _ _ g.offsets g.banks))))
 

@@ -3,15 +3,15 @@
 use Rattle.std.specs.Prelude.{ℕ, ◌+◌, Bool, true, ◌&&◌, List, length, get_or, leb, ltb, eqb}
 use Rattle.fields.specs.Bytes.{part}
 use Rattle.fields.specs.Rule.{◌then◌, unless, each}
-use Rattle.fields.specs.declared.rule.Validity.{Validity}
 use Rattle.m17.specs.declared.Edition.{Edition}
 use Rattle.contact.specs.Contact.{contact_rule}
 use Rattle.channel.specs.Rule.{channel_rule, named_contact}
-use Rattle.channel.specs.declared.ContactIndex.{ContactIndex}
-use Rattle.channel.specs.declared.ContactIndex.TheVariants.{Nobody, Index}
 use Rattle.layout.specs.Places.{contact_count, channel_count, contact_place, channel_place}
 use Rattle.layout.specs.Header.{header_rule}
 use Rattle.layout.specs.Banks.{offsets_rule, banks_rule}
+use Rattle.std.specs.Prelude.{Some, None, Option}
+use Rattle.format.specs.declared.refusals.Reason.TheVariants as reason
+use Rattle.fields.specs.Rule.{Validity}
 
 -- ---- contacts
 
@@ -27,9 +27,9 @@ contacts_rule e f = contacts_rule_by (contact_at e f) f
 
 -- ---- channels: a contact index is 65,535, or below the contact count and names a contact of the channel's own mode
 
-unfoldable pub names_contact : List ℕ → ℕ → ContactIndex → Bool
-names_contact f mode Nobody = true
-names_contact f mode (Index i) = ltb i (contact_count f) && eqb (get_or f (contact_place i + 32) 0) mode
+unfoldable pub names_contact : List ℕ → ℕ → Option ℕ → Bool
+names_contact f mode None = true
+names_contact f mode (Some i) = ltb i (contact_count f) && eqb (get_or f (contact_place i + 32) 0) mode
 
 unfoldable pub index_ok : List ℕ → List ℕ → Bool
 index_ok f s = names_contact f (get_or s 0 0) (named_contact s)
@@ -49,7 +49,7 @@ channels_rule f = channels_rule_by (channel_at f) f
 -- by what refuses its contacts and its channels
 abbrev pub file_rule_by : Validity → Validity → List ℕ → Validity
 file_rule_by contacts channels f =
-    unless (leb (length f) 1_048_576) 1 0
+    unless (leb (length f) 1_048_576) reason.TooLong 0
     then header_rule f
     then contacts
     then channels

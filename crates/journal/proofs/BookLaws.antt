@@ -9,7 +9,6 @@ use lib.ListN.{length}
 use lib.Dec.{leb}
 use borrow.Author.Tests.{leb-true, leb-false}
 use Rattle.fields.proofs.Laws.{AllBytes}
-use Rattle.fields.specs.declared.rule.Validity.TheVariants as validity
 use Rattle.journal.specs.Entry.{Entry, history_bytes}
 use Rattle.journal.specs.History.{fitting_run}
 use Rattle.journal.specs.Change.{entry_of}
@@ -17,6 +16,7 @@ use Rattle.journal.specs.EditSystem.{EditSystem}
 use Rattle.journal.specs.Book.{Standing, file_after, kept_entries, together, drop_oldest, trimmed, any_kept, without_last}
 use Rattle.journal.proofs.Laws.{ValidEntry, AllValid, valid-append, history-none, history-size, history-sizes, kept-all, kept-none, kept-oldest}
 use Rattle.journal.proofs.ChangeLaws.{valid-entry_of}
+use Rattle.fields.specs.Rule.{Valid}
 
 known : (t : Bool) → (t ≡ true) ⊎ (t ≡ false)
 known true = inl refl
@@ -85,7 +85,7 @@ or-second t u e h = rw e at h
 -- ---- the files of a book: each is accepted, made of bytes, and fits the room
 
 pub record Fine (S : EditSystem) (room : ℕ) (f : List ℕ) : Type 0 where
-  pub accepted : S.accepts f ≡ validity.Valid
+  pub accepted : S.accepts f ≡ Valid
   pub bytes : AllBytes f
   pub fits : length f ≤ room
 
@@ -218,7 +218,7 @@ module _ (S : EditSystem) where
   fine-first room f (x ∷ l) h = h.0
 
   -- where accepted files are short enough, every entry is within its rule
-  pub entries-valid : ((f : List ℕ) → S.accepts f ≡ validity.Valid → length f ≤ 1_048_576) → (room : ℕ) (f : List ℕ)
+  pub entries-valid : ((f : List ℕ) → S.accepts f ≡ Valid → length f ≤ 1_048_576) → (room : ℕ) (f : List ℕ)
       (l : List (Standing S)) → AllFine S room f l → AllValid (kept_entries S f l)
   unfolding kept_entries
   entries-valid short room f [] h = tt

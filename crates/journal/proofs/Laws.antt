@@ -11,12 +11,12 @@ use lib.Dec.{leb}
 use borrow.Author.Tests.{le-leb, lt-leb, leb-true}
 use Rattle.fields.specs.Bytes.{part}
 use Rattle.fields.proofs.Laws.{AllBytes, bytes-nil, bytes_drop, bytes-part, bytes-append, part_at, length_part}
-use Rattle.varint.specs.Number.{number_bytes, number_at}
+use Rattle.varint.specs.Number.{number_bytes, number_at, found}
 use Rattle.journal.specs.Entry.{Entry, entry_bytes, entry_size, history_bytes, Front, front, none, with_old, with_put, with_place}
 use Rattle.journal.specs.Entry.{front_of, rest_of, Entries, whole, broken, before, entries_up_to, entries_of}
 use Rattle.journal.specs.History.{fitting_run, recorded}
-use Rattle.varint.specs.declared.NumberRead.{NumberRead}
-use Rattle.varint.specs.declared.NumberRead.TheVariants.{Number, Broken}
+use Rattle.varint.specs.declared.Number.{Number}
+use Rattle.std.specs.Prelude.{Option, Some, None}
 use Rattle.varint.proofs.Laws.{below_or, number-returns, number-inside, number-canonical, number_short, bytes-number}
 
 -- ---- one entry
@@ -60,20 +60,20 @@ bytes-entry e g =
     (bytes-append m e.old (bytes-number (length e.old) g.valid-taken) g.valid-bytes))
 
 -- the front of bytes by its three numbers
-pub with-place : (s : List ℕ) (p a : ℕ) → number_at s ≡ Number p a → front_of s ≡ with_put p (number_at (drop a s)) (drop a s)
+pub with-place : (s : List ℕ) (p a : ℕ) → number_at s ≡ found p a → front_of s ≡ with_put p (number_at (drop a s)) (drop a s)
 unfolding front_of with_place
 with-place s p a e = rw e
 
-pub with-put : (s : List ℕ) (p k b : ℕ) → number_at s ≡ Number k b → with_put p (number_at s) s ≡ with_old p k (number_at (drop b s)) (drop b s)
+pub with-put : (s : List ℕ) (p k b : ℕ) → number_at s ≡ found k b → with_put p (number_at s) s ≡ with_old p k (number_at (drop b s)) (drop b s)
 unfolding with_put
 with-put s p k b e = rw e
 
-pub with-old : (s : List ℕ) (p k m c : ℕ) → number_at s ≡ Number m c → c + m ≤ length s
+pub with-old : (s : List ℕ) (p k m c : ℕ) → number_at s ≡ found m c → c + m ≤ length s
     → with_old p k (number_at s) s ≡ front (record { place = p; put = k; old = part s c m }) (drop (c + m) s)
 unfolding with_old
 with-old s p k m c e h = rw (e, le-leb (c + m) (length s) h)
 
-pub with-cut : (s : List ℕ) (p k m c : ℕ) → number_at s ≡ Number m c → length s < c + m → with_old p k (number_at s) s ≡ none
+pub with-cut : (s : List ℕ) (p k m c : ℕ) → number_at s ≡ found m c → length s < c + m → with_old p k (number_at s) s ≡ none
 unfolding with_old
 with-cut s p k m c e h = rw (e, lt-leb (c + m) (length s) h)
 
@@ -101,25 +101,25 @@ pub record OldRead (p k : ℕ) (s : List ℕ) (e : Entry) (t : List ℕ) : Type 
   pub c : ℕ
   pub place_is : p ≡ e.place
   pub put_is : k ≡ e.put
-  pub taken_at : number_at s ≡ Number (length e.old) c
+  pub taken_at : number_at s ≡ found (length e.old) c
   pub fits : c + length e.old ≤ length s
   pub old-is : part s c (length e.old) ≡ e.old
   pub rest-is : drop (c + length e.old) s ≡ t
 
 pub record PutRead (p : ℕ) (s : List ℕ) (e : Entry) (t : List ℕ) : Type 0 where
   pub b : ℕ
-  pub put-at : number_at s ≡ Number e.put b
+  pub put-at : number_at s ≡ found e.put b
   pub old-read : OldRead p e.put (drop b s) e t
 
 pub record FrontRead (s : List ℕ) (e : Entry) (t : List ℕ) : Type 0 where
   pub a : ℕ
-  pub place_at : number_at s ≡ Number e.place a
+  pub place_at : number_at s ≡ found e.place a
   pub put-read : PutRead e.place (drop a s) e t
 
 no_front : {A : Type 0} (e : Entry) (t : List ℕ) → none ≡ front e t → A
 no_front e t f = let z : ◌≡◌ {A = ℕ} 0 1 = cc in absurd (omega arith)
 
-read_fits : (p k : ℕ) (s : List ℕ) (m c : ℕ) (e : Entry) (t : List ℕ) (v : Bool) → number_at s ≡ Number m c → leb (c + m) (length s) ≡ v
+read_fits : (p k : ℕ) (s : List ℕ) (m c : ℕ) (e : Entry) (t : List ℕ) (v : Bool) → number_at s ≡ found m c → leb (c + m) (length s) ≡ v
     → cond v (front (record { place = p; put = k; old = part s c m }) (drop (c + m) s)) none ≡ front e t → OldRead p k s e t
 read_fits p k s m c e t true f l g =
     let made : Entry = record { place = p; put = k; old = part s c m } in
@@ -138,27 +138,29 @@ read_fits p k s m c e t true f l g =
     })
 read_fits p k s m c e t false f l g = no_front e t g
 
-read-old : (p k : ℕ) (s : List ℕ) (r : NumberRead) (e : Entry) (t : List ℕ) → number_at s ≡ r → with_old p k r s ≡ front e t
+read-old : (p k : ℕ) (s : List ℕ) (r : Option Number) (e : Entry) (t : List ℕ) → number_at s ≡ r → with_old p k r s ≡ front e t
     → OldRead p k s e t
 unfolding with_old
-read-old p k s (Number m c) e t f g = read_fits p k s m c e t (leb (c + m) (length s)) f refl g
-read-old p k s Broken e t f g = no_front e t g
+read-old p k s (Some m) e t f g = read_fits p k s m.value m.size e t (leb (m.size + m.value) (length s)) f refl g
+read-old p k s None e t f g = no_front e t g
 
-read-put : (p : ℕ) (s : List ℕ) (r : NumberRead) (e : Entry) (t : List ℕ) → number_at s ≡ r → with_put p r s ≡ front e t → PutRead p s e t
+read-put : (p : ℕ) (s : List ℕ) (r : Option Number) (e : Entry) (t : List ℕ) → number_at s ≡ r → with_put p r s ≡ front e t → PutRead p s e t
 unfolding with_put
-read-put p s (Number k b) e t f g =
-    let o : OldRead p k (drop b s) e t = read-old p k (drop b s) (number_at (drop b s)) e t refl g in
-    let i : k ≡ e.put = o.put_is in
+read-put p s (Some k) e t f g =
+    let b = k.size in
+    let o : OldRead p k.value (drop b s) e t = read-old p k.value (drop b s) (number_at (drop b s)) e t refl g in
+    let i : k.value ≡ e.put = o.put_is in
     record { b = b; put-at = rw i at f; old-read = rw i at o }
-read-put p s Broken e t f g = no_front e t g
+read-put p s None e t f g = no_front e t g
 
-read-place : (s : List ℕ) (r : NumberRead) (e : Entry) (t : List ℕ) → number_at s ≡ r → with_place r s ≡ front e t → FrontRead s e t
+read-place : (s : List ℕ) (r : Option Number) (e : Entry) (t : List ℕ) → number_at s ≡ r → with_place r s ≡ front e t → FrontRead s e t
 unfolding with_place
-read-place s (Number p a) e t f g =
-    let o : PutRead p (drop a s) e t = read-put p (drop a s) (number_at (drop a s)) e t refl g in
-    let i : p ≡ e.place = o.old-read.place_is in
+read-place s (Some p) e t f g =
+    let a = p.size in
+    let o : PutRead p.value (drop a s) e t = read-put p.value (drop a s) (number_at (drop a s)) e t refl g in
+    let i : p.value ≡ e.place = o.old-read.place_is in
     record { a = a; place_at = rw i at f; put-read = rw i at o }
-read-place s Broken e t f g = no_front e t g
+read-place s None e t f g = no_front e t g
 
 pub front_read : (s : List ℕ) (e : Entry) (t : List ℕ) → front_of s ≡ front e t → FrontRead s e t
 unfolding front_of
@@ -182,7 +184,7 @@ front-shorter s e t g =
       o.fits,
     )
 
-number-front : (s : List ℕ) (x n : ℕ) → AllBytes s → number_at s ≡ Number x n → s ≡ number_bytes x ++ drop n s
+number-front : (s : List ℕ) (x n : ℕ) → AllBytes s → number_at s ≡ found x n → s ≡ number_bytes x ++ drop n s
 number-front s x n h e =
     sym (take-append-drop n s) ∙ ap (λ (l : List ℕ). l ++ drop n s) (number-canonical s x n h e).0
 

@@ -9,10 +9,8 @@ use lib.ListN.{length, length-append}
 use lib.Seq.{take-append_seam}
 use lib.Dec.{leb}
 use borrow.Author.Tests.{leb-false}
-use Rattle.fields.specs.Rule.{◌then◌, unless}
+use Rattle.fields.specs.Rule.{◌then◌, unless, Validity, Valid, Refused}
 use Rattle.fields.specs.Bytes.{AllBytes}
-use Rattle.fields.specs.declared.rule.Validity.{Validity}
-use Rattle.fields.specs.declared.rule.Validity.TheVariants as validity
 use Rattle.journal.specs.Entry.{entry_size, history_bytes, whole}
 use Rattle.journal.specs.Change.{entry_of}
 use Rattle.journal.specs.EditSystem.{EditSystem, Call, edit, undo}
@@ -20,18 +18,22 @@ use Rattle.journal.specs.Promise.{EveryEdit, EveryList}
 use Rattle.journal.specs.Machine.{State, opened, file_of, history_of, buffers_rule, step, next, answers, final}
 use Rattle.journal.specs.Book.{Book, book, book_file, file_after, kept_entries, book_edit_rule, with_edit, after_edit, any_kept, without_last}
 use Rattle.journal.specs.Book.{with_standing, book_undo_rule, after_undo, book_lengths, answer_by, book_next, book_answer, book_answers, book_final}
-use Rattle.journal.specs.declared.answer.Answer.TheVariants.{Done, Refused}
 use Rattle.journal.proofs.StepLaws.{Simulates, Step, newest_first, file-fine, edit-step, undo-step, history-entries, stands-valid}
+use Rattle.std.specs.Prelude.{Ok, Err}
+use Rattle.format.specs.declared.refusals.Reason.TheVariants as reason
+use Rattle.journal.specs.Answer.{done_with}
+use Rattle.format.specs.declared.refusals.Reason.{Reason}
+use Rattle.format.specs.declared.refusals.Refusal.{Refusal}
 
 -- ---- what the promise needs of an edit system
 
 -- an edit that is not refused gives an accepted file of bytes that fits the room; an accepted file has at most 1,048,576 bytes. P says
 -- which edits the promise speaks of
 pub record EditSystemLaws (S : EditSystem) (P : S.Edit → Type 0) : Type 0 where
-  pub result-valid : (e : S.Edit) (room : ℕ) (f : List ℕ) → AllBytes f → S.accepts f ≡ validity.Valid → P e
-      → S.refuses e room f ≡ validity.Valid
-      → (S.accepts (S.applied e f) ≡ validity.Valid) × ((length (S.applied e f) ≤ room) × AllBytes (S.applied e f))
-  pub short : (f : List ℕ) → S.accepts f ≡ validity.Valid → length f ≤ 1_048_576
+  pub result-valid : (e : S.Edit) (room : ℕ) (f : List ℕ) → AllBytes f → S.accepts f ≡ Valid → P e
+      → S.refuses e room f ≡ Valid
+      → (S.accepts (S.applied e f) ≡ Valid) × ((length (S.applied e f) ≤ room) × AllBytes (S.applied e f))
+  pub short : (f : List ℕ) → S.accepts f ≡ Valid → length f ≤ 1_048_576
 
 -- ---- call by call
 
@@ -68,7 +70,7 @@ agree S P L (undo ∷ calls) p m b h =
     agree-more S undo calls m b s (agree S P L calls p (next S undo m) (book_next S undo b) s.simulates)
 
 -- at the start: the history's content is empty
-simulates-opened : (S : EditSystem) (f spare h : List ℕ) → S.accepts f ≡ validity.Valid → AllBytes f
+simulates-opened : (S : EditSystem) (f spare h : List ℕ) → S.accepts f ≡ Valid → AllBytes f
     → Simulates S (opened f spare h) (book S f (length (f ++ spare)) (length h))
 unfolding opened book book_file file_after kept_entries file_of history_bytes
 simulates-opened S f spare h valid bytes =
@@ -109,13 +111,13 @@ record Keeps (S : EditSystem) (a b : Book S) : Type 0 where
 
 edit-keeps : (S : EditSystem) (v : Validity) (e : S.Edit) (b : Book S) → Keeps S (after_edit S v e b) b
 unfolding after_edit with_edit with_standing
-edit-keeps S validity.Valid e b = record { same-opening = refl; same-room = refl; same-history = refl }
-edit-keeps S (validity.Refused n p) e b = record { same-opening = refl; same-room = refl; same-history = refl }
+edit-keeps S (Ok u) e b = record { same-opening = refl; same-room = refl; same-history = refl }
+edit-keeps S (Err e') e b = record { same-opening = refl; same-room = refl; same-history = refl }
 
 undo-keeps : (S : EditSystem) (v : Validity) (b : Book S) → Keeps S (after_undo S v b) b
 unfolding after_undo with_standing
-undo-keeps S validity.Valid b = record { same-opening = refl; same-room = refl; same-history = refl }
-undo-keeps S (validity.Refused n p) b = record { same-opening = refl; same-room = refl; same-history = refl }
+undo-keeps S (Ok u) b = record { same-opening = refl; same-room = refl; same-history = refl }
+undo-keeps S (Err e) b = record { same-opening = refl; same-room = refl; same-history = refl }
 
 keeps-next : (S : EditSystem) (c : Call S) (b : Book S) → Keeps S (book_next S c b) b
 unfolding book_next
@@ -135,28 +137,30 @@ keeps-final S (c ∷ calls) b =
     }
 
 -- where a book refuses
-answer-refused : (S : EditSystem) (v : Validity) (b : Book S) (n p : ℕ) → answer_by S v b ≡ Refused n p → v ≡ validity.Refused n p
+answer-refused : (S : EditSystem) (v : Validity) (b : Book S) (n : Reason) (p : ℕ) → answer_by S v b ≡ Refused n p → v ≡ Refused n p
 unfolding answer_by book_lengths
-answer-refused S validity.Valid b n p e = let z : ◌≡◌ {A = ℕ} 0 1 = cc in absurd (omega arith)
-answer-refused S (validity.Refused k q) b n p e = cc
+answer-refused S (Ok u) b n p e = let z : ◌≡◌ {A = ℕ} 0 1 = cc in absurd (omega arith)
+answer-refused S (Err e') b n p e = cc
 
-answer-done : (S : EditSystem) (v : Validity) (b : Book S) (len used n : ℕ) → answer_by S v b ≡ Done len used n → v ≡ validity.Valid
+answer-done : (S : EditSystem) (v : Validity) (b : Book S) (len used n : ℕ) → answer_by S v b ≡ done_with len used n → v ≡ Valid
 unfolding answer_by
-answer-done S validity.Valid b len used n e = refl
-answer-done S (validity.Refused k q) b len used n e = let z : ◌≡◌ {A = ℕ} 0 1 = cc in absurd (omega arith)
+answer-done S (Ok u) b len used n e = refl
+answer-done S (Err e') b len used n e = let z : ◌≡◌ {A = ℕ} 0 1 = cc in absurd (omega arith)
 
-unless-refused : (t : Bool) (number n p : ℕ) → unless t number 0 ≡ validity.Refused n p → ((n ≡ number) × (p ≡ 0)) × (t ≡ false)
+unless-refused : (t : Bool) (number : Reason) (n : Reason) (p : ℕ) → unless t number 0 ≡ Refused n p → ((n ≡ number) × (p ≡ 0)) × (t ≡ false)
 unfolding unless
 unless-refused true number n p e = let z : ◌≡◌ {A = ℕ} 0 1 = cc in absurd (omega arith)
-unless-refused false number n p e = ((cc, cc), refl)
+unless-refused false number n p e =
+    let g : ◌≡◌ {A = Refusal} (record { reason = n; place = p }) (record { reason = number; place = 0 }) = cc in
+    ((ap (λ (x : Refusal). x.reason) g, ap (λ (x : Refusal). x.place) g), refl)
 
-then-refusals : (a : Validity) (t : Bool) (number n p : ℕ) → a then unless t number 0 ≡ validity.Refused n p
-    → (a ≡ validity.Refused n p) ⊎ (((n ≡ number) × (p ≡ 0)) × (t ≡ false))
+then-refusals : (a : Validity) (t : Bool) (number : Reason) (n : Reason) (p : ℕ) → a then unless t number 0 ≡ Refused n p
+    → (a ≡ Refused n p) ⊎ (((n ≡ number) × (p ≡ 0)) × (t ≡ false))
 unfolding ◌then◌
-then-refusals validity.Valid t number n p e = inr (unless-refused t number n p e)
-then-refusals (validity.Refused k q) t number n p e = inl e
+then-refusals (Ok u) t number n p e = inr (unless-refused t number n p e)
+then-refusals (Err e') t number n p e = inl e
 
-module _ (S : EditSystem) (P : S.Edit → Type 0) (L : EditSystemLaws S P) (f spare h : List ℕ) (valid : S.accepts f ≡ validity.Valid) (bytes : AllBytes f)
+module _ (S : EditSystem) (P : S.Edit → Type 0) (L : EditSystemLaws S P) (f spare h : List ℕ) (valid : S.accepts f ≡ Valid) (bytes : AllBytes f)
     (calls : List (Call S)) (proper : EveryEdit S P calls) where
   -- the room holds the book's file, and the history the kept entries, newest first
   pub simulates-after : Simulates S (state_after S f spare h calls) (book_after S f spare h calls)
@@ -168,13 +172,13 @@ module _ (S : EditSystem) (P : S.Edit → Type 0) (L : EditSystemLaws S P) (f sp
   entries-after = history-entries S L.short (state_after S f spare h calls) (book_after S f spare h calls) simulates-after
 
   -- 30, the file's own refusal and 31 do not arise
-  pub stands_after : buffers_rule S (state_after S f spare h calls) ≡ validity.Valid
+  pub stands_after : buffers_rule S (state_after S f spare h calls) ≡ Valid
   stands_after = stands-valid S L.short (state_after S f spare h calls) (book_after S f spare h calls) simulates-after
 
   -- an edit is refused by its own refusals of the file, and then by 37 at 0 where its entry alone exceeds the history buffer: no other
-  pub edit-refusals : (e : S.Edit) → P e → (n p : ℕ) → (step S (edit e) (state_after S f spare h calls)).answer ≡ Refused n p
-      → (S.refuses e (length (f ++ spare)) (file_of (state_after S f spare h calls)) ≡ validity.Refused n p)
-      ⊎ (((n ≡ 37) × (p ≡ 0))
+  pub edit-refusals : (e : S.Edit) → P e → (n : Reason) (p : ℕ) → (step S (edit e) (state_after S f spare h calls)).answer ≡ Refused n p
+      → (S.refuses e (length (f ++ spare)) (file_of (state_after S f spare h calls)) ≡ Refused n p)
+      ⊎ (((n ≡ reason.HistoryTooSmall) × (p ≡ 0))
       × (length h
       < entry_size (entry_of (file_of (state_after S f spare h calls)) (S.applied e (file_of (state_after S f spare h calls))))))
   unfolding book_answer book_edit_rule book
@@ -190,20 +194,20 @@ module _ (S : EditSystem) (P : S.Edit → Type 0) (L : EditSystemLaws S P) (f sp
       (λ full.
       let large : length h < size = omega (arith, k.same-history, leb-false size b.history_size full.1) in
       inr (full.0, rw file large))
-      (then-refusals (S.refuses e b.room_size (book_file S b)) (leb size b.history_size) 37 n p r)
+      (then-refusals (S.refuses e b.room_size (book_file S b)) (leb size b.history_size) reason.HistoryTooSmall n p r)
 
   -- an undo is refused exactly where no standing edit's entry is kept, and then by 38 at 0: 39 does not arise
-  pub undo-refusals : (n p : ℕ) → (step S undo (state_after S f spare h calls)).answer ≡ Refused n p
-      → ((n ≡ 38) × (p ≡ 0)) × (any_kept S (book_after S f spare h calls).standing ≡ false)
+  pub undo-refusals : (n : Reason) (p : ℕ) → (step S undo (state_after S f spare h calls)).answer ≡ Refused n p
+      → ((n ≡ reason.NoUndo) × (p ≡ 0)) × (any_kept S (book_after S f spare h calls).standing ≡ false)
   unfolding book_answer book_undo_rule
   undo-refusals n p a =
       let m = state_after S f spare h calls in
       let b = book_after S f spare h calls in
       let r = answer-refused S (book_undo_rule S b) (book_next S undo b) n p (sym (undo-step S L.short m b simulates-after).same_answer ∙ a) in
-      unless-refused (any_kept S b.standing) 38 n p r
+      unless-refused (any_kept S b.standing) reason.NoUndo n p r
 
   pub undo-refused : any_kept S (book_after S f spare h calls).standing ≡ false
-      → (step S undo (state_after S f spare h calls)).answer ≡ Refused 38 0
+      → (step S undo (state_after S f spare h calls)).answer ≡ Refused reason.NoUndo 0
   unfolding book_answer book_undo_rule answer_by unless
   undo-refused none =
       let m = state_after S f spare h calls in
@@ -211,7 +215,7 @@ module _ (S : EditSystem) (P : S.Edit → Type 0) (L : EditSystemLaws S P) (f sp
       (undo-step S L.short m b simulates-after).same_answer ∙ rw none
 
   -- an undo that is accepted takes back the last standing edit: the file is that of the standing edits without the last
-  pub undo-takes-back : (len used n : ℕ) → (step S undo (state_after S f spare h calls)).answer ≡ Done len used n
+  pub undo-takes-back : (len used n : ℕ) → (step S undo (state_after S f spare h calls)).answer ≡ done_with len used n
       → file_of (next S undo (state_after S f spare h calls)) ≡ file_after S f (without_last S (book_after S f spare h calls).standing)
   unfolding book_answer book_next after_undo with_standing book_file book
   undo-takes-back len used n a =
@@ -219,5 +223,5 @@ module _ (S : EditSystem) (P : S.Edit → Type 0) (L : EditSystemLaws S P) (f sp
       let b = book_after S f spare h calls in
       let s = undo-step S L.short m b simulates-after in
       let k = keeps-final S calls (book S f (length (f ++ spare)) (length h)) in
-      let g : book_undo_rule S b ≡ validity.Valid = answer-done S (book_undo_rule S b) (book_next S undo b) len used n (sym s.same_answer ∙ a) in
+      let g : book_undo_rule S b ≡ Valid = answer-done S (book_undo_rule S b) (book_next S undo b) len used n (sym s.same_answer ∙ a) in
       s.simulates.file-is ∙ rw (g, k.same-opening)

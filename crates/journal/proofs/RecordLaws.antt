@@ -20,10 +20,10 @@ use Rattle.journal.specs.Machine.{holding}
 use Rattle.journal.specs.Span.{span_of, entry_from, Sound, span_size, recorded_in, Reserved}
 use Rattle.journal.specs.declared.recording.Span.{Span}
 use Rattle.journal.specs.declared.scan.Run.{Run}
-use Rattle.journal.specs.declared.scan.HistoryRead.TheVariants as read
 use Rattle.varint.proofs.Laws.{number_short}
 use Rattle.journal.proofs.Laws.{size-parts, entries-canonical, kept-bytes, kept-fits, history-least, history-size}
 use Rattle.journal.proofs.ChangeLaws.{tail-left, length_taken}
+use Rattle.std.specs.Prelude.{None}
 
 -- ---- a change's numbers
 
@@ -126,7 +126,7 @@ pub record KeptRun (d : List ℕ) (used space : ℕ) (k : Run) : Type 0 where
   pub fits : k.bytes ≤ space
   pub few : 3 * k.entries ≤ k.bytes
 
-run_by : (d : List ℕ) (used space : ℕ) (k : Run) (r : Entries) → AllBytes d → (number_of_entries r ≡ read.Broken → ⊥) → k ≡ run_of r space
+run_by : (d : List ℕ) (used space : ℕ) (k : Run) (r : Entries) → AllBytes d → (number_of_entries r ≡ None → ⊥) → k ≡ run_of r space
     → entries_of (take used d) ≡ r → KeptRun d used space k
 unfolding number_of_entries run_of
 run_by d used space k (whole es) b u f e =
@@ -148,7 +148,7 @@ run_by d used space k (whole es) b u f e =
     }
 run_by d used space k broken b u f e = absurd (u refl)
 
-pub kept_run : {d : List ℕ} {used space : ℕ} {k : Run} → AllBytes d → (number_of_entries (entries_of (take used d)) ≡ read.Broken → ⊥)
+pub kept_run : {d : List ℕ} {used space : ℕ} {k : Run} → AllBytes d → (number_of_entries (entries_of (take used d)) ≡ None → ⊥)
     → k ≡ run_of (entries_of (take used d)) space → KeptRun d used space k
 kept_run {d} {used} {space} {k} b u f = run_by d used space k (entries_of (take used d)) b u f refl
 

@@ -8,19 +8,15 @@ use lib.ListN.{length, drop, length-append, length-drop, drop_of_length-le}
 use lib.Seq.{drop-drop}
 use Rattle.fields.specs.Bytes.{part}
 use Rattle.fields.proofs.Laws.{AllBytes, bytes_drop, length_part}
-use Rattle.varint.specs.Number.{number_at}
+use Rattle.varint.specs.Number.{number_at, found}
 use Rattle.journal.specs.Entry.{Entry, entry_bytes, entry_size, history_bytes, Front, front, none, with_old, with_put, with_place}
 use Rattle.journal.specs.Entry.{front_of, Entries, whole, broken, before, entries_of}
 use Rattle.journal.specs.History.{fitting_run}
 use Rattle.journal.specs.History.{number_of_entries}
 use Rattle.journal.specs.Scan.{head_of, run_of}
-use Rattle.varint.specs.declared.NumberRead.{NumberRead}
-use Rattle.varint.specs.declared.NumberRead.TheVariants.{Number, Broken}
+use Rattle.varint.specs.declared.Number.{Number}
+use Rattle.std.specs.Prelude.{Some, None, Option}
 use Rattle.journal.specs.declared.scan.EntryHead.{EntryHead}
-use Rattle.journal.specs.declared.scan.EntryRead.{EntryRead}
-use Rattle.journal.specs.declared.scan.EntryRead.TheVariants as head
-use Rattle.journal.specs.declared.scan.HistoryRead.{HistoryRead}
-use Rattle.journal.specs.declared.scan.HistoryRead.TheVariants as read
 use Rattle.journal.specs.declared.scan.Run.{Run}
 use Rattle.varint.proofs.Laws.{number-inside}
 use Rattle.journal.proofs.Laws.{with-place, with-put, with-old, with-cut}
@@ -31,28 +27,28 @@ use Rattle.journal.proofs.Laws.{history-none, history-size, kept-none, kept_more
 
 -- at k stands the number x, in n bytes; as a record, from which antt finds them
 pub record NumberHere (s : List ℕ) (k x n : ℕ) : Type 0 where
-  pub here : number_at (drop k s) ≡ Number x n
+  pub here : number_at (drop k s) ≡ found x n
 
-pub number-here : (s : List ℕ) (k x n : ℕ) {r : NumberRead} → r ≡ number_at (drop k s) → r ≡ Number x n → NumberHere s k x n
-number-here s k x n e f = record { here = sym e ∙ f }
+pub number-here : (s : List ℕ) (k : ℕ) (r : Number) → Some r ≡ number_at (drop k s) → NumberHere s k r.value r.size
+number-here s k r e = record { here = sym e }
 
 pub here-inside : {s : List ℕ} {k x n : ℕ} → NumberHere s k x n → k + n ≤ length s
 here-inside {s} {k} {x} {n} h = omega (arith, number-inside (drop k s) x n h.here, length-drop k s)
 
-head-none : (f : Front) (n : ℕ) → f ≡ none → head.Broken ≡ head_of f n
+head-none : (f : Front) (n : ℕ) → f ≡ none → None ≡ head_of f n
 unfolding head_of
 head-none f n e = rw e
 
-pub no_place : (s : List ℕ) (k : ℕ) {r : NumberRead} → r ≡ number_at (drop k s) → r ≡ Broken
-    → head.Broken ≡ head_of (front_of (drop k s)) (length s)
+pub no_place : (s : List ℕ) (k : ℕ) → None ≡ number_at (drop k s)
+    → None ≡ head_of (front_of (drop k s)) (length s)
 unfolding front_of with_place
-no_place s k e f = head-none (front_of (drop k s)) (length s) (rw (sym e ∙ f))
+no_place s k e = head-none (front_of (drop k s)) (length s) (rw (sym e))
 
-pub no-put : {s : List ℕ} {k p a : ℕ} {r : NumberRead} → NumberHere s k p a → r ≡ number_at (drop (k + a) s) → r ≡ Broken
-    → head.Broken ≡ head_of (front_of (drop k s)) (length s)
+pub no-put : {s : List ℕ} {k p a : ℕ} → NumberHere s k p a → None ≡ number_at (drop (k + a) s)
+    → None ≡ head_of (front_of (drop k s)) (length s)
 unfolding with_put
-no-put {s} {k} {p} {a} h e f =
-    head-none (front_of (drop k s)) (length s) (with-place (drop k s) p a h.here ∙ rw (drop-drop a k s, sym e ∙ f))
+no-put {s} {k} {p} {a} h e =
+    head-none (front_of (drop k s)) (length s) (with-place (drop k s) p a h.here ∙ rw (drop-drop a k s, sym e))
 
 -- the first two numbers
 front-two : {s : List ℕ} {k p a q b : ℕ} → NumberHere s k p a → NumberHere s (k + a) q b
@@ -61,13 +57,13 @@ front-two {s} {k} {p} {a} {q} {b} h i =
     with-place (drop k s) p a h.here
     ∙ rw (drop-drop a k s) (with-put (drop (k + a) s) p q b i.here ∙ rw (drop-drop b (k + a) s))
 
-pub no-taken : {s : List ℕ} {k p a q b : ℕ} {r : NumberRead} → NumberHere s k p a → NumberHere s (k + a) q b
-    → r ≡ number_at (drop (k + a + b) s) → r ≡ Broken → head.Broken ≡ head_of (front_of (drop k s)) (length s)
+pub no-taken : {s : List ℕ} {k p a q b : ℕ} → NumberHere s k p a → NumberHere s (k + a) q b
+    → None ≡ number_at (drop (k + a + b) s) → None ≡ head_of (front_of (drop k s)) (length s)
 unfolding with_old
-no-taken {s} {k} h i e f = head-none (front_of (drop k s)) (length s) (front-two h i ∙ rw (sym e ∙ f))
+no-taken {s} {k} h i e = head-none (front_of (drop k s)) (length s) (front-two h i ∙ rw (sym e))
 
 pub old-cut : {s : List ℕ} {k p a q b m c : ℕ} → NumberHere s k p a → NumberHere s (k + a) q b → NumberHere s (k + a + b) m c
-    → length s - (k + a + b + c) < m → head.Broken ≡ head_of (front_of (drop k s)) (length s)
+    → length s - (k + a + b + c) < m → None ≡ head_of (front_of (drop k s)) (length s)
 old-cut {s} {k} {p} {a} {q} {b} {m} {c} h i j g =
     head-none (front_of (drop k s)) (length s)
     (front-two h i
@@ -75,7 +71,7 @@ old-cut {s} {k} {p} {a} {q} {b} {m} {c} h i j g =
 
 pub old-whole : {s : List ℕ} {k p a q b m c : ℕ} → NumberHere s k p a → NumberHere s (k + a) q b → NumberHere s (k + a + b) m c
     → m ≤ length s - (k + a + b + c)
-    → head.Entry (record { place = p; put = q; taken = m; body = k + a + b + c; next = k + a + b + c + m })
+    → Some (record { place = p; put = q; taken = m; body = k + a + b + c; next = k + a + b + c + m })
     ≡ head_of (front_of (drop k s)) (length s)
 unfolding head_of
 old-whole {s} {k} {p} {a} {q} {b} {m} {c} h i j g =
@@ -101,7 +97,7 @@ pub record HeadRead (s : List ℕ) (k : ℕ) (h : EntryHead) : Type 0 where
   pub inside : h.next ≤ length s
 
 head-of-front : (s : List ℕ) (k : ℕ) (e : Entry) (t : List ℕ) (h : EntryHead) → front_of (drop k s) ≡ front e t
-    → head_of (front e t) (length s) ≡ head.Entry h → HeadRead s k h
+    → head_of (front e t) (length s) ≡ Some h → HeadRead s k h
 unfolding head_of
 head-of-front s k e t h f g =
     let made : EntryHead =
@@ -146,23 +142,23 @@ head-of-front s k e t h f g =
       inside = omega arith;
     })
 
-head-by : (s : List ℕ) (k : ℕ) (f : Front) (h : EntryHead) → front_of (drop k s) ≡ f → head_of f (length s) ≡ head.Entry h → HeadRead s k h
+head-by : (s : List ℕ) (k : ℕ) (f : Front) (h : EntryHead) → front_of (drop k s) ≡ f → head_of f (length s) ≡ Some h → HeadRead s k h
 head-by s k (front e t) h f g = head-of-front s k e t h f g
 head-by s k none h f g =
-    let e : head.Broken ≡ head.Entry h = unfold head_of in g in
+    let e : None ≡ Some h = unfold head_of in g in
     let z : ◌≡◌ {A = ℕ} 0 1 = cc in
     absurd (omega arith)
 
-pub head_read : (s : List ℕ) (k : ℕ) (h : EntryHead) {r : EntryRead} → r ≡ head_of (front_of (drop k s)) (length s) → r ≡ head.Entry h
+pub head_read : (s : List ℕ) (k : ℕ) (h : EntryHead) {r : Option EntryHead} → r ≡ head_of (front_of (drop k s)) (length s) → r ≡ Some h
     → HeadRead s k h
 head_read s k h e f = head-by s k (front_of (drop k s)) h refl (sym e ∙ f)
 
-none-by : (f : Front) (n : ℕ) → head_of f n ≡ head.Broken → f ≡ none
+none-by : (f : Front) (n : ℕ) → head_of f n ≡ None → f ≡ none
 unfolding head_of
 none-by (front e t) n g = let z : ◌≡◌ {A = ℕ} 0 1 = cc in absurd (omega arith)
 none-by none n g = refl
 
-pub head-broken : (s : List ℕ) (k n : ℕ) {r : EntryRead} → r ≡ head_of (front_of (drop k s)) n → r ≡ head.Broken
+pub head-broken : (s : List ℕ) (k n : ℕ) {r : Option EntryHead} → r ≡ head_of (front_of (drop k s)) n → r ≡ None
     → front_of (drop k s) ≡ none
 head-broken s k n e f = none-by (front_of (drop k s)) n (sym e ∙ f)
 
@@ -187,14 +183,14 @@ head-size s k h b r =
 -- ---- counting entries, iteration by iteration
 
 -- n entries more
-unfoldable pub added : ℕ → HistoryRead → HistoryRead
-added n (read.Entries m) = read.Entries (n + m)
-added n read.Broken = read.Broken
+unfoldable pub added : ℕ → Option ℕ → Option ℕ
+added n (Some m) = Some (n + m)
+added n None = None
 
-added_none : (r : HistoryRead) → r ≡ added 0 r
+added_none : (r : Option ℕ) → r ≡ added 0 r
 unfolding added
-added_none (read.Entries m) = rw zero-add
-added_none read.Broken = refl
+added_none (Some m) = rw zero-add
+added_none None = refl
 
 counted_next : (n : ℕ) (e : Entry) (t : List ℕ) (r : Entries) → added n (number_of_entries (before (front e t) r)) ≡ added (n + 1) (number_of_entries r)
 unfolding added number_of_entries before
@@ -204,19 +200,19 @@ counted_next n e t broken = refl
 pub counted_start : (s : List ℕ) → number_of_entries (entries_of s) ≡ added 0 (number_of_entries (entries_of (drop 0 s)))
 counted_start s = added_none (number_of_entries (entries_of s))
 
-pub counted_step : (s : List ℕ) (k n m : ℕ) (h : EntryHead) (all : HistoryRead) → all ≡ added n (number_of_entries (entries_of (drop k s)))
+pub counted_step : (s : List ℕ) (k n m : ℕ) (h : EntryHead) (all : Option ℕ) → all ≡ added n (number_of_entries (entries_of (drop k s)))
     → HeadRead s k h → m ≡ n + 1 → all ≡ added m (number_of_entries (entries_of (drop h.next s)))
 counted_step s k n m h all e r one =
     let t = drop h.next s in
     e ∙ rw (one, entries_next (drop k s) r.entry t r.front-is) (counted_next n r.entry t (entries_of t))
 
-pub counted_stop : (s : List ℕ) (k n : ℕ) (all : HistoryRead) → all ≡ added n (number_of_entries (entries_of (drop k s))) → k < length s
-    → front_of (drop k s) ≡ none → read.Broken ≡ all
+pub counted_stop : (s : List ℕ) (k n : ℕ) (all : Option ℕ) → all ≡ added n (number_of_entries (entries_of (drop k s))) → k < length s
+    → front_of (drop k s) ≡ none → None ≡ all
 unfolding added number_of_entries
 counted_stop s k n all e h f = sym (e ∙ rw (entries-stop (drop k s) (omega (arith, length-drop k s)) f))
 
-pub counted-end : (s : List ℕ) (k n : ℕ) (all : HistoryRead) → all ≡ added n (number_of_entries (entries_of (drop k s))) → length s ≤ k
-    → read.Entries n ≡ all
+pub counted-end : (s : List ℕ) (k n : ℕ) (all : Option ℕ) → all ≡ added n (number_of_entries (entries_of (drop k s))) → length s ≤ k
+    → Some n ≡ all
 unfolding added number_of_entries
 counted-end s k n all e h =
     let z : n + 0 ≡ n = omega arith in
@@ -267,7 +263,7 @@ pub record Fitting (s : List ℕ) (space k n : ℕ) : Type 0 where
   pub same : run_of (entries_of s) space ≡ run_from k n space (entries_of (drop k s))
   pub sound : entries_of (drop k s) ≡ broken → ⊥
 
-pub fitting-start : (s : List ℕ) (space : ℕ) → (number_of_entries (entries_of s) ≡ read.Broken → ⊥) → Fitting s space 0 0
+pub fitting-start : (s : List ℕ) (space : ℕ) → (number_of_entries (entries_of s) ≡ None → ⊥) → Fitting s space 0 0
 unfolding number_of_entries
 fitting-start s space u = record { same = run-zero space (entries_of s); sound = λ e. u (rw e) }
 
@@ -308,15 +304,15 @@ pub record Held (s : List ℕ) (n : ℕ) : Type 0 where
   pub held-is : entries_of s ≡ whole held
   pub many : length held ≡ n
 
-held_by : (s : List ℕ) (n : ℕ) (r : Entries) → entries_of s ≡ r → number_of_entries r ≡ read.Entries n → Held s n
+held_by : (s : List ℕ) (n : ℕ) (r : Entries) → entries_of s ≡ r → number_of_entries r ≡ Some n → Held s n
 unfolding number_of_entries
 held_by s n (whole es) e f = record { held = es; held-is = e; many = cc }
 held_by s n broken e f = let z : ◌≡◌ {A = ℕ} 0 1 = cc in absurd (omega arith)
 
-pub counted-held : (s : List ℕ) (n : ℕ) → number_of_entries (entries_of s) ≡ read.Entries n → Held s n
+pub counted-held : (s : List ℕ) (n : ℕ) → number_of_entries (entries_of s) ≡ Some n → Held s n
 counted-held s n f = held_by s n (entries_of s) refl f
 
-pub counted-history : (es : List Entry) → AllValid es → number_of_entries (entries_of (history_bytes es)) ≡ read.Entries (length es)
+pub counted-history : (es : List Entry) → AllValid es → number_of_entries (entries_of (history_bytes es)) ≡ Some (length es)
 unfolding number_of_entries
 counted-history es g = rw (entries-return es g)
 
@@ -329,7 +325,7 @@ run-history es space g = rw (entries-return es g)
 -- the head of a history's first entry
 pub head_first : (e : Entry) (es : List Entry) → ValidEntry e
     → head_of (front_of (history_bytes (e ∷ es))) (length (history_bytes (e ∷ es)))
-    ≡ head.Entry (record {
+    ≡ Some (record {
       place = e.place;
       put = e.put;
       taken = length e.old;

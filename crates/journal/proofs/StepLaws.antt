@@ -9,10 +9,8 @@ use lib.Seq.{take-append_seam}
 use lib.Dec.{leb}
 use borrow.Author.Tests.{le-leb, leb-true}
 use Rattle.fields.specs.Bytes.{zeros}
-use Rattle.fields.specs.Rule.{◌then◌, unless, is_valid}
+use Rattle.fields.specs.Rule.{◌then◌, unless, is_valid, Validity, Valid, Refused}
 use Rattle.fields.proofs.Laws.{length-zeros, then-valid, unless-valid}
-use Rattle.fields.specs.declared.rule.Validity.{Validity}
-use Rattle.fields.specs.declared.rule.Validity.TheVariants as validity
 use Rattle.journal.specs.Entry.{Entry, whole, entry_size, history_bytes}
 use Rattle.journal.specs.History.{fitting_run, recorded}
 use Rattle.journal.specs.Change.{entry_of}
@@ -22,12 +20,15 @@ use Rattle.journal.specs.EditSystem.{Call, edit, undo}
 use Rattle.journal.specs.Machine.{edit_outcome, edit_step, entry_fits, top_rule, undo_rule, revert_top, without_top, undo_outcome, undo_step, entry_list, step, after, next}
 use Rattle.journal.specs.Book.{Standing, Book, book_file, file_after, kept_entries, trimmed, with_standing, book_edit_rule, with_edit}
 use Rattle.journal.specs.Book.{after_edit, any_kept, without_last, book_undo_rule, after_undo, book_lengths, answer_by, book_next, book_answer}
-use Rattle.journal.specs.declared.answer.Answer.TheVariants.{Done, Refused}
 use Rattle.journal.proofs.Laws.{AllValid, entries-return, recorded-kept, recorded-fits, history-size}
 use Rattle.journal.proofs.ChangeLaws.{revert-entry_of, entry_of-inside}
 use Rattle.journal.proofs.BookLaws.{Fine, AllFine, NewestKept, together-reverse, valid-reverse, file-last, entries-last, fine_more}
 use Rattle.journal.proofs.BookLaws.{newest-more, LastKept, last-kept, without-last, fine-less, newest-less, entries_none, fine-last}
 use Rattle.journal.proofs.BookLaws.{entries-valid, fine-oldest, newest-oldest, trimmed-keeps, file-trimmed, entries-trimmed, entries-many}
+use Rattle.std.specs.Prelude.{Ok, Err}
+use Rattle.format.specs.declared.refusals.Reason.TheVariants as reason
+use Rattle.journal.specs.Answer.{done_with}
+use Rattle.format.specs.declared.refusals.Reason.{Reason}
 
 -- ---- a buffer and its new content
 
@@ -66,11 +67,11 @@ pub record Step (S : EditSystem) (c : Call S) (m : State) (b : Book S) : Type 0 
   pub same_answer : (step S c m).answer ≡ book_answer S c b
   pub simulates : Simulates S (next S c m) (book_next S c b)
 
-next-refused : (S : EditSystem) (c : Call S) (m : State) (n p : ℕ) → step S c m ≡ refused n p m → next S c m ≡ m
+next-refused : (S : EditSystem) (c : Call S) (m : State) (n : Reason) (p : ℕ) → step S c m ≡ refused n p m → next S c m ≡ m
 unfolding next after refused
 next-refused S c m n p e = rw e
 
-pub refused-step : (S : EditSystem) (c : Call S) (m : State) (b : Book S) (n p : ℕ) → step S c m ≡ refused n p m
+pub refused-step : (S : EditSystem) (c : Call S) (m : State) (b : Book S) (n : Reason) (p : ℕ) → step S c m ≡ refused n p m
     → book_answer S c b ≡ Refused n p → book_next S c b ≡ b → Simulates S m b → Step S c m b
 unfolding refused
 refused-step S c m b n p e f g h =
@@ -125,7 +126,7 @@ simulates-made S m b l s es made h =
 
 -- what the book answers is what the buffers hold
 state-made : (S : EditSystem) (b : Book S) (l : List (Standing S)) (s : List ℕ) (es : List Entry) → Made S b l s es
-    → book_lengths S (with_standing S l b) ≡ Done (length s) (length (history_bytes es)) (length es)
+    → book_lengths S (with_standing S l b) ≡ done_with (length s) (length (history_bytes es)) (length es)
 unfolding book_lengths with_standing book_file
 state-made S b l s es made =
     let k = kept_entries S b.opening l in
@@ -150,7 +151,7 @@ done-step S c m b l s es e f g made h =
 
 -- accepted files are short enough for the numbers of an entry
 abbrev pub Short : EditSystem → Type 0
-Short S = (f : List ℕ) → S.accepts f ≡ validity.Valid → length f ≤ 1_048_576
+Short S = (f : List ℕ) → S.accepts f ≡ Valid → length f ≤ 1_048_576
 
 module _ (S : EditSystem) (short : Short S) (m : State) (b : Book S) (h : Simulates S m b) where
   pub history-entries : history_of m ≡ whole (newest_first S b)
@@ -160,7 +161,7 @@ module _ (S : EditSystem) (short : Short S) (m : State) (b : Book S) (h : Simula
       let g : AllValid k = entries-valid S short b.room_size b.opening b.standing h.all-fine in
       rw h.entries-are (entries-return (reverse k) (valid-reverse k g))
 
-  pub stands-valid : buffers_rule S m ≡ validity.Valid
+  pub stands-valid : buffers_rule S m ≡ Valid
   unfolding buffers_rule whole_rule unless ◌then◌
   stands-valid =
       let fine = file-fine S m b h in
@@ -180,11 +181,11 @@ module _ (S : EditSystem) (short : Short S) (m : State) (b : Book S) (h : Simula
   unfolding edit_rule book_edit_rule new_entry ◌then◌
   edit-rule e = rw (stands-valid, h.file-is, h.room-size, h.history-size-is)
 
-  edit-refused : (e : S.Edit) (n p : ℕ) → book_edit_rule S e b ≡ validity.Refused n p → step S (edit e) m ≡ refused n p m
+  edit-refused : (e : S.Edit) (n : Reason) (p : ℕ) → book_edit_rule S e b ≡ Refused n p → step S (edit e) m ≡ refused n p m
   unfolding step edit_step edit_outcome
   edit-refused e n p f = rw (edit-rule e, f)
 
-  edit-done : (e : S.Edit) → book_edit_rule S e b ≡ validity.Valid
+  edit-done : (e : S.Edit) → book_edit_rule S e b ≡ Valid
       → step S (edit e) m
       ≡ done (S.applied e (book_file S b))
       (recorded b.history_size (entry_of (book_file S b) (S.applied e (book_file S b))) (newest_first S b)) m
@@ -228,23 +229,23 @@ module _ (S : EditSystem) (short : Short S) (m : State) (b : Book S) (h : Simula
             (newest-more S l s refl h.newest-kept);
       }
 
-  edit-accepted : (e : S.Edit) → book_edit_rule S e b ≡ validity.Valid
-      → (S.refuses e b.room_size (book_file S b) ≡ validity.Valid)
+  edit-accepted : (e : S.Edit) → book_edit_rule S e b ≡ Valid
+      → (S.refuses e b.room_size (book_file S b) ≡ Valid)
       × (entry_size (entry_of (book_file S b) (S.applied e (book_file S b))) ≤ b.history_size)
   unfolding book_edit_rule
   edit-accepted e f =
       let size = entry_size (entry_of (book_file S b) (S.applied e (book_file S b))) in
       let fits = leb size b.history_size in
-      let g = then-valid (S.refuses e b.room_size (book_file S b)) (unless fits 37 0) f in
-      (g.0, leb-true size b.history_size (unless-valid fits 37 0 g.1))
+      let g = then-valid (S.refuses e b.room_size (book_file S b)) (unless fits reason.HistoryTooSmall 0) f in
+      (g.0, leb-true size b.history_size (unless-valid fits reason.HistoryTooSmall 0 g.1))
 
   edit-by : (e : S.Edit) (v : Validity) → book_edit_rule S e b ≡ v
-      → (S.refuses e b.room_size (book_file S b) ≡ validity.Valid → Fine S b.room_size (S.applied e (book_file S b)))
+      → (S.refuses e b.room_size (book_file S b) ≡ Valid → Fine S b.room_size (S.applied e (book_file S b)))
       → Step S (edit e) m b
   unfolding book_answer answer_by book_next after_edit with_edit
-  edit-by e (validity.Refused n p) f fine =
-      refused-step S (edit e) m b n p (edit-refused e n p f) (rw f) (rw f) h
-  edit-by e validity.Valid f fine =
+  edit-by e (Err e') f fine =
+      refused-step S (edit e) m b e'.reason e'.place (edit-refused e e'.reason e'.place f) (rw f) (rw f) h
+  edit-by e (Ok u) f fine =
       let g = edit-accepted e f in
       done-step S (edit e) m b
       (trimmed S (suc (length b.standing)) b.history_size b.opening (b.standing ++ (record { made = e; kept = true } ∷ [])))
@@ -254,13 +255,13 @@ module _ (S : EditSystem) (short : Short S) (m : State) (b : Book S) (h : Simula
 
   -- an edit whose result is fine wherever the edit itself does not refuse
   pub edit-step : (e : S.Edit)
-      → (S.refuses e b.room_size (book_file S b) ≡ validity.Valid → Fine S b.room_size (S.applied e (book_file S b)))
+      → (S.refuses e b.room_size (book_file S b) ≡ Valid → Fine S b.room_size (S.applied e (book_file S b)))
       → Step S (edit e) m b
   edit-step e fine = edit-by e (book_edit_rule S e b) refl fine
 
   -- ---- an undo
 
-  undo-refused : any_kept S b.standing ≡ false → step S undo m ≡ refused 38 0 m
+  undo-refused : any_kept S b.standing ≡ false → step S undo m ≡ refused reason.NoUndo 0 m
   unfolding step undo_step undo_rule top_rule undo_outcome entry_list ◌then◌
   undo-refused f =
       rw (stands-valid, history-entries, entries_none S b.opening b.standing f)
@@ -342,7 +343,7 @@ module _ (S : EditSystem) (short : Short S) (m : State) (b : Book S) (h : Simula
   undo-by : (t : Bool) → any_kept S b.standing ≡ t → Step S undo m b
   unfolding book_answer answer_by book_next after_undo book_undo_rule unless
   undo-by true f = undo-accepted (last-kept S b.standing h.newest-kept f) f
-  undo-by false f = refused-step S undo m b 38 0 (undo-refused f) (rw f) (rw f) h
+  undo-by false f = refused-step S undo m b reason.NoUndo 0 (undo-refused f) (rw f) (rw f) h
 
   pub undo-step : Step S undo m b
   undo-step = undo-by (any_kept S b.standing) refl

@@ -1,14 +1,14 @@
 -- The plain book (document 01, "The plain book"): the opening file and the standing edits in order, each with a note whether its entry is
 -- kept. Book and standing are document 01's words: the book is the model that every answer is compared with. It is fed no answer, no length of a content and no history byte.
-use Rattle.std.specs.Prelude.{ℕ, zero, suc, ◌+◌, Bool, true, false, ◌||◌, cond, List, [], ◌∷◌, ◌++◌, length, leb}
-use Rattle.fields.specs.Rule.{◌then◌, unless}
-use Rattle.fields.specs.declared.rule.Validity.{Validity}
-use Rattle.fields.specs.declared.rule.Validity.TheVariants as validity
+use Rattle.std.specs.Prelude.{ℕ, zero, suc, ◌+◌, Bool, true, false, ◌||◌, cond, List, [], ◌∷◌, ◌++◌, length, leb, Ok, Err, Result}
+use Rattle.fields.specs.Rule.{◌then◌, unless, Validity}
 use Rattle.journal.specs.Entry.{Entry, entry_size, alone_rule}
 use Rattle.journal.specs.Change.{entry_of}
 use Rattle.journal.specs.EditSystem.{EditSystem, Call, edit, undo}
-use Rattle.journal.specs.declared.answer.Answer.{Answer}
-use Rattle.journal.specs.declared.answer.Answer.TheVariants.{Done, Refused}
+use Rattle.format.specs.declared.refusals.Reason.TheVariants as reason
+use Rattle.format.specs.declared.refusals.Refusal.{Refusal}
+use Rattle.journal.specs.Answer.{done_with}
+use Rattle.journal.specs.declared.answer.Done.{Done}
 
 -- an edit that stands, and whether its entry is kept
 pub record Standing (S : EditSystem) : Type 0 where
@@ -71,8 +71,8 @@ module _ (S : EditSystem) where
       with_standing (trimmed (suc (length b.standing)) b.history_size b.opening (b.standing ++ (record { made = e; kept = true } ∷ []))) b
 
   unfoldable pub after_edit : Validity → S.Edit → Book S → Book S
-  after_edit validity.Valid e b = with_edit e b
-  after_edit (validity.Refused n p) e b = b
+  after_edit (Ok u) e b = with_edit e b
+  after_edit (Err e') e b = b
 
   -- ---- an undo
 
@@ -87,34 +87,34 @@ module _ (S : EditSystem) where
   without_last (s ∷ (t ∷ l)) = s ∷ without_last (t ∷ l)
 
   unfoldable pub book_undo_rule : Book S → Validity
-  book_undo_rule b = unless (any_kept b.standing) 38 0
+  book_undo_rule b = unless (any_kept b.standing) reason.NoUndo 0
 
   unfoldable pub after_undo : Validity → Book S → Book S
-  after_undo validity.Valid b = with_standing (without_last b.standing) b
-  after_undo (validity.Refused n p) b = b
+  after_undo (Ok u) b = with_standing (without_last b.standing) b
+  after_undo (Err e) b = b
 
   -- ---- a call: what it answers, and the book afterwards
 
   -- the length of the book's file, the kept entries' length together and their number
-  unfoldable pub book_lengths : Book S → Answer
+  unfoldable pub book_lengths : Book S → Result Done Refusal
   book_lengths b =
-      Done (length (book_file b)) (together (kept_entries b.opening b.standing)) (length (kept_entries b.opening b.standing))
+      done_with (length (book_file b)) (together (kept_entries b.opening b.standing)) (length (kept_entries b.opening b.standing))
 
-  unfoldable pub answer_by : Validity → Book S → Answer
-  answer_by validity.Valid b = book_lengths b
-  answer_by (validity.Refused n p) b = Refused n p
+  unfoldable pub answer_by : Validity → Book S → Result Done Refusal
+  answer_by (Ok u) b = book_lengths b
+  answer_by (Err e) b = Err e
 
   unfoldable pub book_next : Call S → Book S → Book S
   book_next (edit e) b = after_edit (book_edit_rule e b) e b
   book_next undo b = after_undo (book_undo_rule b) b
 
-  unfoldable pub book_answer : Call S → Book S → Answer
+  unfoldable pub book_answer : Call S → Book S → Result Done Refusal
   book_answer (edit e) b = answer_by (book_edit_rule e b) (book_next (edit e) b)
   book_answer undo b = answer_by (book_undo_rule b) (book_next undo b)
 
   -- ---- a list of calls
 
-  unfoldable pub book_answers : List (Call S) → Book S → List Answer
+  unfoldable pub book_answers : List (Call S) → Book S → List (Result Done Refusal)
   book_answers [] b = []
   book_answers (c ∷ l) b = book_answer c b ∷ book_answers l (book_next c b)
 

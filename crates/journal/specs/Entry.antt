@@ -1,11 +1,10 @@
 -- Entries of the history (document 01's word for the undo journal; "The history"): p, k, m, then m bytes; newest first.
-use Rattle.std.specs.Prelude.{ℕ, zero, suc, ◌+◌, cond, List, [], ◌∷◌, ◌++◌, length, drop, leb}
+use Rattle.std.specs.Prelude.{ℕ, zero, suc, ◌+◌, cond, List, [], ◌∷◌, ◌++◌, length, drop, leb, Option, Some, None}
 use Rattle.fields.specs.Bytes.{part}
-use Rattle.fields.specs.Rule.{unless}
-use Rattle.fields.specs.declared.rule.Validity.{Validity}
+use Rattle.fields.specs.Rule.{unless, Validity}
 use Rattle.varint.specs.Number.{number_bytes, number_at}
-use Rattle.varint.specs.declared.NumberRead.{NumberRead}
-use Rattle.varint.specs.declared.NumberRead.TheVariants.{Number, Broken}
+use Rattle.varint.specs.declared.Number.{Number}
+use Rattle.format.specs.declared.refusals.Reason.TheVariants as reason
 
 pub record Entry : Type 0 where
   -- p
@@ -25,7 +24,7 @@ entry_size e = length (entry_bytes e)
 
 -- 37: a new entry alone exceeds a history buffer of so many bytes
 abbrev pub alone_rule : Entry → ℕ → Validity
-alone_rule e size = unless (leb (entry_size e) size) 37 0
+alone_rule e size = unless (leb (entry_size e) size) reason.HistoryTooSmall 0
 
 unfoldable pub history_bytes : List Entry → List ℕ
 history_bytes [] = []
@@ -38,18 +37,20 @@ pub data Front : Type 0 where
   front : Entry → List ℕ → Front
   none : Front
 
-unfoldable pub with_old : ℕ → ℕ → NumberRead → List ℕ → Front
-with_old p k (Number m n) s =
-    cond (leb (n + m) (length s)) (front (record { place = p; put = k; old = part s n m }) (drop (n + m) s)) none
-with_old p k Broken s = none
+unfoldable pub with_old : ℕ → ℕ → Option Number → List ℕ → Front
+with_old p k (Some m) s =
+    cond (leb (m.size + m.value) (length s))
+    (front (record { place = p; put = k; old = part s m.size m.value }) (drop (m.size + m.value) s))
+    none
+with_old p k None s = none
 
-unfoldable pub with_put : ℕ → NumberRead → List ℕ → Front
-with_put p (Number k n) s = with_old p k (number_at (drop n s)) (drop n s)
-with_put p Broken s = none
+unfoldable pub with_put : ℕ → Option Number → List ℕ → Front
+with_put p (Some k) s = with_old p k.value (number_at (drop k.size s)) (drop k.size s)
+with_put p None s = none
 
-unfoldable pub with_place : NumberRead → List ℕ → Front
-with_place (Number p n) s = with_put p (number_at (drop n s)) (drop n s)
-with_place Broken s = none
+unfoldable pub with_place : Option Number → List ℕ → Front
+with_place (Some p) s = with_put p.value (number_at (drop p.size s)) (drop p.size s)
+with_place None s = none
 
 unfoldable pub front_of : List ℕ → Front
 front_of s = with_place (number_at s) s

@@ -1,4 +1,5 @@
 -- The history: entries that undo edits of a byte list. Nothing here knows what a codeplug is.
+pub mod Answer
 pub mod Entry
 pub mod History
 pub mod Change

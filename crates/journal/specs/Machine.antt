@@ -1,15 +1,16 @@
 -- What a call of edit or undo does to the two lent buffers (document 01, "The refusals, by number", "The twelve edits", "The history").
-use Rattle.std.specs.Prelude.{ℕ, ◌+◌, ◌-◌, max, Bool, ◌&&◌, List, [], ◌∷◌, ◌++◌, length, take, drop, leb}
+use Rattle.std.specs.Prelude.{ℕ, ◌+◌, ◌-◌, max, Bool, ◌&&◌, List, [], ◌∷◌, ◌++◌, length, take, drop, leb, Ok, Err, Result}
 use Rattle.fields.specs.Bytes.{zeros}
-use Rattle.fields.specs.Rule.{◌then◌, unless, is_valid}
-use Rattle.fields.specs.declared.rule.Validity.{Validity}
-use Rattle.fields.specs.declared.rule.Validity.TheVariants as validity
+use Rattle.fields.specs.Rule.{◌then◌, unless, is_valid, Validity, Valid, Refused}
 use Rattle.journal.specs.Entry.{Entry, Entries, whole, broken, entries_of, alone_rule, history_bytes}
 use Rattle.journal.specs.History.{recorded}
 use Rattle.journal.specs.Change.{entry_of, revert}
 use Rattle.journal.specs.EditSystem.{EditSystem, Call, edit, undo}
-use Rattle.journal.specs.declared.answer.Answer.{Answer}
-use Rattle.journal.specs.declared.answer.Answer.TheVariants.{Done, Refused}
+use Rattle.format.specs.declared.refusals.Reason.{Reason}
+use Rattle.format.specs.declared.refusals.Reason.TheVariants as reason
+use Rattle.format.specs.declared.refusals.Refusal.{Refusal}
+use Rattle.journal.specs.Answer.{done_with}
+use Rattle.journal.specs.declared.answer.Done.{Done}
 
 -- two buffers, each with the length of its content: the room (document 01's word) holds the codeplug and then spare bytes, the history what
 -- undo needs
@@ -21,7 +22,7 @@ pub record State : Type 0 where
 
 -- an answer, and the two buffers afterwards
 pub record Outcome : Type 0 where
-  pub answer : Answer
+  pub answer : Result Done Refusal
   pub room : List ℕ
   pub history : List ℕ
 
@@ -47,25 +48,25 @@ entry_list (whole es) = es
 entry_list broken = []
 
 unfoldable pub whole_rule : Entries → Validity
-whole_rule (whole es) = validity.Valid
-whole_rule broken = validity.Refused 31 0
+whole_rule (whole es) = Valid
+whole_rule broken = Refused reason.BadHistory 0
 
 unfoldable pub buffers_rule : EditSystem → State → Validity
 buffers_rule S m =
-    unless (leb m.length-in-room (length m.room) && leb m.length-in-history (length m.history)) 30 0
+    unless (leb m.length-in-room (length m.room) && leb m.length-in-history (length m.history)) reason.BadLength 0
     then S.accepts (file_of m)
     then whole_rule (history_of m)
 
 -- ---- outcomes
 
-unfoldable pub refused : ℕ → ℕ → State → Outcome
-refused number place m = record { answer = Refused number place; room = m.room; history = m.history }
+unfoldable pub refused : Reason → ℕ → State → Outcome
+refused why place m = record { answer = Refused why place; room = m.room; history = m.history }
 
 -- the file s and the entries es
 unfoldable pub done : List ℕ → List Entry → State → Outcome
 done s es m =
     record {
-      answer = Done (length s) (length (history_bytes es)) (length es);
+      answer = done_with (length s) (length (history_bytes es)) (length es);
       room = holding m.room m.length-in-room s;
       history = holding m.history m.length-in-history (history_bytes es);
     }
@@ -82,8 +83,8 @@ edit_rule S e m =
     then alone_rule (new_entry S e (file_of m)) (length m.history)
 
 unfoldable pub edit_outcome : (S : EditSystem) → S.Edit → State → Validity → List Entry → Outcome
-edit_outcome S e m (validity.Refused n p) es = refused n p m
-edit_outcome S e m validity.Valid es =
+edit_outcome S e m (Err e') es = refused e'.reason e'.place m
+edit_outcome S e m (Ok u) es =
     done (S.applied e (file_of m)) (recorded (length m.history) (new_entry S e (file_of m)) es) m
 
 unfoldable pub edit_step : (S : EditSystem) → S.Edit → State → Outcome
@@ -98,8 +99,8 @@ entry_fits S e m =
     && (leb (length (revert e (file_of m))) (length m.room) && is_valid (S.accepts (revert e (file_of m))))
 
 unfoldable pub top_rule : EditSystem → List Entry → State → Validity
-top_rule S [] m = validity.Refused 38 0
-top_rule S (e ∷ es) m = unless (entry_fits S e m) 39 0
+top_rule S [] m = Refused reason.NoUndo 0
+top_rule S (e ∷ es) m = unless (entry_fits S e m) reason.HistoryEntry 0
 
 unfoldable pub undo_rule : EditSystem → State → Validity
 undo_rule S m = buffers_rule S m then top_rule S (entry_list (history_of m)) m
@@ -114,8 +115,8 @@ without_top [] = []
 without_top (e ∷ es) = es
 
 unfoldable pub undo_outcome : EditSystem → State → Validity → List Entry → Outcome
-undo_outcome S m (validity.Refused n p) es = refused n p m
-undo_outcome S m validity.Valid es = done (revert_top es (file_of m)) (without_top es) m
+undo_outcome S m (Err e) es = refused e.reason e.place m
+undo_outcome S m (Ok u) es = done (revert_top es (file_of m)) (without_top es) m
 
 unfoldable pub undo_step : EditSystem → State → Outcome
 undo_step S m = undo_outcome S m (undo_rule S m) (entry_list (history_of m))
@@ -127,15 +128,15 @@ step S (edit e) m = edit_step S e m
 step S undo m = undo_step S m
 
 -- the lengths that a caller passes to the next call: those answered, or the same after a refusal
-unfoldable pub after : Answer → Outcome → State → State
-after (Done len used n) o m = record { room = o.room; length-in-room = len; history = o.history; length-in-history = used }
-after (Refused n p) o m = record { room = o.room; length-in-room = m.length-in-room; history = o.history; length-in-history = m.length-in-history }
+unfoldable pub after : Result Done Refusal → Outcome → State → State
+after (Ok x) o m = record { room = o.room; length-in-room = x.len; history = o.history; length-in-history = x.used }
+after (Err e) o m = record { room = o.room; length-in-room = m.length-in-room; history = o.history; length-in-history = m.length-in-history }
 
 unfoldable pub next : (S : EditSystem) → Call S → State → State
 next S c m = after (step S c m).answer (step S c m) m
 
 -- the answers to a list of calls, and the state after it
-unfoldable pub answers : (S : EditSystem) → List (Call S) → State → List Answer
+unfoldable pub answers : (S : EditSystem) → List (Call S) → State → List (Result Done Refusal)
 answers S [] m = []
 answers S (c ∷ l) m = (step S c m).answer ∷ answers S l (next S c m)
 

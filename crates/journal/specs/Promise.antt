@@ -1,10 +1,10 @@
 -- Demand 3 as one statement (document 01, "The plain book"), for any edits; proofs/Promise.antt proves it.
 use Rattle.std.specs.Prelude.{◌≡◌, List, [], ◌∷◌, ◌++◌, ℕ, length}
 use Rattle.fields.specs.Bytes.{AllBytes}
-use Rattle.fields.specs.declared.rule.Validity.TheVariants.{Valid}
 use Rattle.journal.specs.EditSystem.{EditSystem, Call, edit, undo}
 use Rattle.journal.specs.Machine.{opened, file_of, answers, final}
 use Rattle.journal.specs.Book.{book, book_file, book_answers, book_final}
+use Rattle.fields.specs.Rule.{Valid}
 
 -- every edit of a list of calls is one of those that P names
 abbrev pub EveryEdit : (S : EditSystem) → (S.Edit → Type 0) → List (Call S) → Type 0

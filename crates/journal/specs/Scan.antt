@@ -1,22 +1,21 @@
 -- How the scan of a history names what it finds. No promise to a caller rests on these.
-use Rattle.std.specs.Prelude.{ℕ, ◌-◌, length}
-use Rattle.journal.specs.Entry.{Entry, Front, front, none, Entries, whole, broken, history_bytes}
+use Rattle.std.specs.Prelude.{ℕ, ◌-◌, length, Some, None, Option}
+use Rattle.journal.specs.Entry.{Front, front, none, Entries, whole, broken, history_bytes}
 use Rattle.journal.specs.History.{fitting_run}
-use Rattle.journal.specs.declared.scan.EntryRead.{EntryRead}
-use Rattle.journal.specs.declared.scan.EntryRead.TheVariants as read
 use Rattle.journal.specs.declared.scan.Run.{Run}
+use Rattle.journal.specs.declared.scan.EntryHead.{EntryHead}
 
 -- the entry at the front of the rest of a history of n bytes: its old bytes end where what follows it begins
-unfoldable pub head_of : Front → ℕ → EntryRead
+unfoldable pub head_of : Front → ℕ → Option EntryHead
 head_of (front e s) n =
-    read.Entry (record {
+    Some (record {
       place = e.place;
       put = e.put;
       taken = length e.old;
       body = n - length s - length e.old;
       next = n - length s;
     })
-head_of none n = read.Broken
+head_of none n = None
 
 -- the run of entries that is kept within so many bytes
 unfoldable pub run_of : Entries → ℕ → Run

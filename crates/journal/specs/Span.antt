@@ -1,13 +1,12 @@
 -- A change by its three numbers p, k and m, and the history with its entry put first, as the code has them. No promise to a caller rests on
 -- these.
-use Rattle.std.specs.Prelude.{ℕ, ◌+◌, ◌≤◌, ◌≡◌, List, [], ◌∷◌, ◌++◌, length, take}
+use Rattle.std.specs.Prelude.{ℕ, ◌+◌, ◌≤◌, ◌≡◌, List, [], ◌∷◌, ◌++◌, length, take, None}
 use Rattle.fields.specs.Bytes.{over}
 use Rattle.varint.specs.Number.{number_bytes}
 use Rattle.journal.specs.Entry.{Entry, Entries, whole, broken, entries_of, history_bytes}
 use Rattle.journal.specs.History.{recorded}
 use Rattle.journal.specs.History.{number_of_entries}
 use Rattle.journal.specs.Machine.{holding}
-use Rattle.journal.specs.declared.scan.HistoryRead.TheVariants.{Broken}
 use Rattle.journal.specs.declared.scan.Run.{Run}
 use Rattle.journal.specs.declared.recording.Span.{Span}
 
@@ -40,7 +39,7 @@ pub record Reserved (d : List ℕ) (used n size : ℕ) (d₁ : List ℕ) : Type 
 abbrev pub Recordable : List ℕ → ℕ → Span → List ℕ → Type 0
 Recordable d used s old =
     ((Sound s × (length old ≡ s.taken)) × (span_size s ≤ length d))
-    × ((used ≤ length d) × (number_of_entries (entries_of (take used d)) ≡ Broken → ⊥))
+    × ((used ≤ length d) × (number_of_entries (entries_of (take used d)) ≡ None → ⊥))
 
 -- the entries of d once that change is recorded
 abbrev pub recorded_over : List ℕ → ℕ → Span → List ℕ → List Entry

@@ -1,8 +1,9 @@
-// The answer of an edit or an undo.
+// What an edit or an undo answers.
 
-// Both new lengths and the number of entries left, or a refusal and its place.
-#[derive(Clone, Copy)]
-pub enum Answer {
-    Done(usize, usize, usize),
-    Refused(u8, usize),
+// Both new lengths and the number of entries left.
+#[derive(Clone, Copy, Debug, PartialEq, Eq)]
+pub struct Done {
+    pub len: usize,
+    pub used: usize,
+    pub entries: usize,
 }

@@ -4,6 +4,7 @@ use mathlib.Core.Path.{◌≡◌, refl, ap, sym, ◌∙◌}
 use mathlib.Core.Bool.{true}
 use mathlib.Core.List.{List}
 use native.Mathlib.Omega.{arith}
+use native.Mathlib.Nat.{add-zero, sub-zero}
 use lib.ListN.{length, take, drop, length-drop, drop_of_length-le}
 use lib.Seq.{take_all, take-nil}
 use lib.Dec.{leb, ltb, eqb}
@@ -11,13 +12,15 @@ use borrow.Author.Tests.{eqb-true, leb-true, ltb-true}
 use Rattle.fields.specs.Bytes.{part, num}
 use Rattle.text.specs.Text.{text_ok}
 use Rattle.fields.specs.Rule.{◌then◌, unless, field, each}
-use Rattle.fields.specs.declared.rule.Validity.{Validity}
-use Rattle.fields.specs.declared.rule.Validity.TheVariants.{Valid, Refused}
-use Rattle.fields.proofs.Laws.{part-inside, then-valid, valid-then, then-assoc, then-refused, unless-valid, field-valid, each-valid, AllBytes, num-lt}
+use Rattle.fields.proofs.Laws.{part-inside, part-part, then-valid, ok_then, err_then, unless-valid, field-valid, each-valid, AllBytes, num-lt}
 use Rattle.layout.specs.Places.{contact_count, channel_count, bank_count, offset_place, banks_place}
 use Rattle.layout.specs.Header.{header_rule}
 use Rattle.layout.specs.Banks.{offset_at, offsets_rule, entry_at, entry_count, bank_head, bank_at, next_bank, banks_from, banks_rule}
 use Rattle.layout.specs.Banks.{bank_from, bank_place}
+use Rattle.format.specs.declared.refusals.Reason.TheVariants as reason
+use Rattle.std.specs.Prelude.{Err}
+use Rattle.fields.specs.Rule.{Validity, Valid}
+use Rattle.format.specs.declared.refusals.Refusal.{Refusal}
 
 -- ---- parts that are lent
 
@@ -40,38 +43,16 @@ record-bytes-rest f p w h =
     let b : length (drop p f) ≤ length f - p = rw length-drop (omega arith) in
     take_all (length f - p) (drop p f) b ∙ sym (take_all w (drop p f) a)
 
--- ---- one bank, validated in two steps
+-- ---- a bank's head, of the bytes that are lent
 
--- its offset and its head, then its entries
-bank_at-split : (f : List ℕ) (t p : ℕ)
-    → bank_at f t p
-    ≡ (unless (eqb (banks_place f + num f t 4) p) 10 t then bank_head f p) then each (entry_at f) (entry_count f p) 2 (p + 34)
-unfolding bank_at
-bank_at-split f t p =
-    sym (then-assoc (unless (eqb (banks_place f + num f t 4) p) 10 t) (bank_head f p) (each (entry_at f) (entry_count f p) 2 (p + 34)))
-
-pub bank_at-bad : (f : List ℕ) (t p : ℕ) (v : Validity) (a b : ℕ)
-    → v ≡ unless (eqb (banks_place f + num f t 4) p) 10 t then bank_head f p → v ≡ Refused a b → v ≡ bank_at f t p
-bank_at-bad f t p v a b e g =
-    g
-    ∙ sym
-    (bank_at-split f t p
-    ∙ then-refused (unless (eqb (banks_place f + num f t 4) p) 10 t then bank_head f p)
-    (each (entry_at f) (entry_count f p) 2 (p + 34)) a b (sym e ∙ g))
-
-pub bank_at-rest : (f : List ℕ) (t p : ℕ) (v r : Validity)
-    → v ≡ unless (eqb (banks_place f + num f t 4) p) 10 t then bank_head f p → v ≡ Valid
-    → r ≡ each (entry_at f) (entry_count f p) 2 (p + 34) → r ≡ bank_at f t p
-bank_at-rest f t p v r e g d =
-    d
-    ∙ sym
-    (bank_at-split f t p
-    ∙ valid-then (unless (eqb (banks_place f + num f t 4) p) 10 t then bank_head f p)
-    (each (entry_at f) (entry_count f p) 2 (p + 34)) (sym e ∙ g))
+pub bank_head_lent : (f : List ℕ) (p : ℕ)
+    → bank_head f p ≡ field (part f p 34) p 0 32 reason.Text (text_ok (part (part f p 34) 0 32)) then field (part f p 34) p 32 2 reason.Value true
+unfolding bank_head
+bank_head_lent f p = rw (part-part f p 34 0 32 (omega arith), add-zero)
 
 -- ---- the walk over the banks
 
-pub banks-none : (f : List ℕ) (t p : ℕ) → banks_from f 0 t p ≡ unless (leb (length f) p) 12 p
+pub banks-none : (f : List ℕ) (t p : ℕ) → banks_from f 0 t p ≡ unless (leb (length f) p) reason.Trailing p
 unfolding banks_from
 banks-none f t p = refl
 
@@ -86,29 +67,28 @@ banks-step f n i t p h =
     let e : n - i ≡ suc (n - (i + 1)) = omega arith in
     rw e (banks-suc f (n - (i + 1)) t p)
 
--- the loop: what is left from the i-th bank on, at p with its offset at t, answers for all; v is that bank's validity
-pub banks-next : (f : List ℕ) (n i t p : ℕ) (all v : Validity) (q : ℕ) → i < n → all ≡ banks_from f (n - i) t p → v ≡ bank_at f t p
-    → v ≡ Valid → q ≡ next_bank f p → all ≡ banks_from f (n - (i + 1)) (t + 4) q
-banks-next f n i t p all v q h e b g d =
-    e
-    ∙ banks-step f n i t p h
-    ∙ valid-then (bank_at f t p) (banks_from f (n - (i + 1)) (t + 4) (next_bank f p)) (sym b ∙ g)
-    ∙ rw d
+-- the loop: what is left from the i-th bank on, at p, answers for all
+pub banks_begin : (f : List ℕ) → banks_rule f ≡ banks_from f (bank_count f - 0) (offset_place f 0 + 0) (banks_place f)
+unfolding banks_rule
+banks_begin f = rw (sub-zero, add-zero)
 
-pub banks-bad : (f : List ℕ) (n i t p : ℕ) (all v : Validity) (a b : ℕ) → i < n → all ≡ banks_from f (n - i) t p → v ≡ bank_at f t p
-    → v ≡ Refused a b → v ≡ all
-banks-bad f n i t p all v a b h e d g =
-    g
-    ∙ sym
-    (e
-    ∙ banks-step f n i t p h
-    ∙ then-refused (bank_at f t p) (banks_from f (n - (i + 1)) (t + 4) (next_bank f p)) a b (sym d ∙ g))
+pub banks_more : (f : List ℕ) (i p : ℕ) → i < bank_count f → banks_rule f ≡ banks_from f (bank_count f - i) (offset_place f 0 + i * 4) p
+    → bank_at f (offset_place f 0 + i * 4) p ≡ Valid
+    → banks_rule f ≡ banks_from f (bank_count f - (i + 1)) (offset_place f 0 + (i + 1) * 4) (next_bank f p)
+banks_more f i p h e g =
+    let d : offset_place f 0 + (i + 1) * 4 ≡ offset_place f 0 + i * 4 + 4 = omega arith in
+    e ∙ banks-step f (bank_count f) i (offset_place f 0 + i * 4) p h ∙ rw (g, d) (ok_then tt _)
 
-pub banks-done : (f : List ℕ) (n i t p : ℕ) (all v : Validity) → n ≤ i → all ≡ banks_from f (n - i) t p
-    → v ≡ unless (leb (length f) p) 12 p → v ≡ all
-banks-done f n i t p all v h e d =
-    let z : n - i ≡ 0 = omega arith in
-    d ∙ sym (e ∙ rw z (banks-none f t p))
+pub banks_refused : (f : List ℕ) (i p : ℕ) (e : Refusal) → i < bank_count f
+    → banks_rule f ≡ banks_from f (bank_count f - i) (offset_place f 0 + i * 4) p → bank_at f (offset_place f 0 + i * 4) p ≡ Err e
+    → banks_rule f ≡ Err e
+banks_refused f i p e h g d = g ∙ banks-step f (bank_count f) i (offset_place f 0 + i * 4) p h ∙ rw d (err_then e _)
+
+pub banks_end : (f : List ℕ) (i p : ℕ) → bank_count f ≤ i → banks_rule f ≡ banks_from f (bank_count f - i) (offset_place f 0 + i * 4) p
+    → banks_rule f ≡ unless (leb (length f) p) reason.Trailing p
+banks_end f i p h e =
+    let z : bank_count f - i ≡ 0 = omega arith in
+    e ∙ rw z (banks-none f (offset_place f 0 + i * 4) p)
 
 -- ---- what an accepted header gives
 
@@ -119,7 +99,7 @@ header-length f h =
     let b = (then-valid _ _ a).1 in
     let d = (then-valid _ _ b).1 in
     let e = (then-valid _ _ d).1 in
-    (field-valid (length f) 0 86 2 7 true e).0
+    (field-valid (length f) 0 86 2 reason.Value true e).0
 
 -- the counts are numbers of two bytes
 pub contact_count-lt : (f : List ℕ) → AllBytes f → contact_count f < 65536
@@ -150,7 +130,7 @@ offset-valid f n h g =
     ap (λ (p : ℕ). offset_at f p) (sym (offset-walks f n)) ∙ each-valid (offset_at f) (bank_count f) 4 (offset_place f 0) h n g
 
 pub offset-inside : (f : List ℕ) (p : ℕ) → offset_at f p ≡ Valid → p + 4 ≤ length f
-offset-inside f p h = part-inside f p 4 (omega arith) (field-valid (length (part f p 4)) p 0 4 7 true h).0
+offset-inside f p h = part-inside f p 4 (omega arith) (field-valid (length (part f p 4)) p 0 4 reason.Value true h).0
 
 -- ---- what accepted banks give
 
@@ -178,8 +158,8 @@ bank_at-valid : (f : List ℕ) (t p : ℕ) → bank_at f t p ≡ Valid
 unfolding bank_at
 bank_at-valid f t p h =
     let entries = each (entry_at f) (entry_count f p) 2 (p + 34) in
-    let a = then-valid (unless (eqb (banks_place f + num f t 4) p) 10 t) (bank_head f p then entries) h in (
-      eqb-true (banks_place f + num f t 4) p (unless-valid (eqb (banks_place f + num f t 4) p) 10 t a.0),
+    let a = then-valid (unless (eqb (banks_place f + num f t 4) p) reason.BankOffset t) (bank_head f p then entries) h in (
+      eqb-true (banks_place f + num f t 4) p (unless-valid (eqb (banks_place f + num f t 4) p) reason.BankOffset t a.0),
       then-valid (bank_head f p) entries a.1,
     )
 
@@ -196,13 +176,13 @@ bank-valid f n h g = (bank_at-valid f (offset_place f n) (bank_place f n) (bank-
 pub bank-head-length : (f : List ℕ) (p : ℕ) → bank_head f p ≡ Valid → p + 34 ≤ length f
 unfolding bank_head
 bank-head-length f p h =
-    let a = (then-valid (field (part f p 34) p 0 32 5 (text_ok (part f p 32))) (field (part f p 34) p 32 2 7 true) h).1 in
-    part-inside f p 34 (omega arith) (field-valid (length (part f p 34)) p 32 2 7 true a).0
+    let a = (then-valid (field (part f p 34) p 0 32 reason.Text (text_ok (part f p 32))) (field (part f p 34) p 32 2 reason.Value true) h).1 in
+    part-inside f p 34 (omega arith) (field-valid (length (part f p 34)) p 32 2 reason.Value true a).0
 
 pub entry-inside : (f : List ℕ) (p : ℕ) → entry_at f p ≡ Valid → (p + 2 ≤ length f) × (num f p 2 < channel_count f)
 unfolding entry_at
 entry-inside f p h =
-    let a = field-valid (length (part f p 2)) p 0 2 11 (ltb (num f p 2) (channel_count f)) h in
+    let a = field-valid (length (part f p 2)) p 0 2 reason.BankEntry (ltb (num f p 2) (channel_count f)) h in
     (part-inside f p 2 (omega arith) a.0, ltb-true (num f p 2) (channel_count f) a.1)
 
 -- entry i of a run from p on
@@ -237,7 +217,7 @@ bank-next f n = bank-after f n (banks_place f)
 -- the file ends with the last bank
 banks-reach : (f : List ℕ) (m t p : ℕ) → banks_from f m t p ≡ Valid → length f ≤ bank_from f m p
 unfolding banks_from bank_from
-banks-reach f zero t p h = leb-true (length f) p (unless-valid (leb (length f) p) 12 p h)
+banks-reach f zero t p h = leb-true (length f) p (unless-valid (leb (length f) p) reason.Trailing p h)
 banks-reach f (suc m) t p h =
     banks-reach f m (t + 4) (next_bank f p) (then-valid (bank_at f t p) (banks_from f m (t + 4) (next_bank f p)) h).1
 

@@ -3,8 +3,9 @@ use Rattle.std.specs.Prelude.{ℕ, zero, suc, ◌+◌, ◌*◌, List, length, le
 use Rattle.fields.specs.Bytes.{part, num}
 use Rattle.text.specs.Text.{text_ok}
 use Rattle.fields.specs.Rule.{◌then◌, unless, field, inside, each}
-use Rattle.fields.specs.declared.rule.Validity.{Validity}
 use Rattle.layout.specs.Places.{channel_count, bank_count, offset_place, banks_place}
+use Rattle.format.specs.declared.refusals.Reason.TheVariants as reason
+use Rattle.fields.specs.Rule.{Validity}
 
 -- ---- the table of offsets, inside in its turn
 
@@ -17,7 +18,7 @@ offsets_rule f = each (offset_at f) (bank_count f) 4 (offset_place f 0)
 -- ---- banks: name, entry count, then one channel index per entry, each below the channel count
 
 unfoldable pub entry_at : List ℕ → ℕ → Validity
-entry_at f p = field (part f p 2) p 0 2 11 (ltb (num f p 2) (channel_count f))
+entry_at f p = field (part f p 2) p 0 2 reason.BankEntry (ltb (num f p 2) (channel_count f))
 
 unfoldable pub entry_count : List ℕ → ℕ → ℕ
 entry_count f p = num f (p + 32) 2
@@ -29,13 +30,13 @@ offset_target f t = banks_place f + num f t 4
 -- a bank's name and entry count
 unfoldable pub bank_head : List ℕ → ℕ → Validity
 bank_head f p =
-    field (part f p 34) p 0 32 5 (text_ok (part f p 32))
+    field (part f p 34) p 0 32 reason.Text (text_ok (part f p 32))
     then inside (part f p 34) p 32 2
 
 -- the bank at p, whose offset stands at t
 unfoldable pub bank_at : List ℕ → ℕ → ℕ → Validity
 bank_at f t p =
-    unless (eqb (offset_target f t) p) 10 t
+    unless (eqb (offset_target f t) p) reason.BankOffset t
     then bank_head f p
     then each (entry_at f) (entry_count f p) 2 (p + 34)
 
@@ -45,7 +46,7 @@ next_bank f p = p + 34 + entry_count f p * 2
 
 -- the last n banks, from the one at p with its offset at t; the file ends with the last
 unfoldable pub banks_from : List ℕ → ℕ → ℕ → ℕ → Validity
-banks_from f zero t p = unless (leb (length f) p) 12 p
+banks_from f zero t p = unless (leb (length f) p) reason.Trailing p
 banks_from f (suc n) t p = bank_at f t p then banks_from f n (t + 4) (next_bank f p)
 
 unfoldable pub banks_rule : List ℕ → Validity

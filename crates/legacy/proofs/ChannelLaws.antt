@@ -7,7 +7,6 @@ use mathlib.Core.List.{List, [], ◌∷◌}
 use native.Mathlib.Omega.{arith}
 use lib.ListN.{get_or}
 use Rattle.fields.specs.Bytes.{AllBytes}
-use Rattle.fields.specs.declared.rule.Validity.TheVariants.{Valid}
 use Rattle.channel.specs.Values.{traits_of}
 use Rattle.channel.specs.Rule.{head_rule, texts_rule, location_rule, fm_rule, dmr_rule, m17_rule, info_rule, channel_rule, named_contact}
 use Rattle.channel.proofs.Laws.{valid-channel}
@@ -17,6 +16,7 @@ use Rattle.legacy.specs.Migration.{migrated_at, migrated_channel}
 use Rattle.legacy.proofs.ByteLaws.{zero_ok, zero_of, migrated-ok, migrated-of, both_zero}
 use Rattle.legacy.proofs.RunLaws.{Keeps, KeepsBytes, OneToOne}
 use Rattle.legacy.proofs.RecordLaws.{at_here, at_other, at_long, at_one, at-stays, at-bytes}
+use Rattle.fields.specs.Rule.{Valid}
 
 pub channel-keeps : Keeps migrated_channel
 unfolding migrated_channel

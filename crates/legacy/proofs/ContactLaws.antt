@@ -10,7 +10,6 @@ use lib.ListN.{length, get_or}
 use lib.Dec.{eqb}
 use borrow.Author.Tests.{eqb-true}
 use Rattle.fields.specs.Bytes.{AllBytes}
-use Rattle.fields.specs.declared.rule.Validity.TheVariants.{Valid}
 use Rattle.bits.specs.Packed.{number_flag_ok}
 use Rattle.m17.specs.declared.Edition.{Edition}
 use Rattle.contact.specs.Contact.{dmr_rule, contact_rule, settings_of, info_of, contact_of}
@@ -20,6 +19,7 @@ use Rattle.legacy.specs.Migration.{migrated_at, migrated_contact}
 use Rattle.legacy.proofs.ByteLaws.{migrated-ok, migrated-of, both_zero}
 use Rattle.legacy.proofs.RunLaws.{Keeps, KeepsBytes, OneToOne}
 use Rattle.legacy.proofs.RecordLaws.{at_here, at_other, at_before, at_long, at_one, at-stays, at-bytes}
+use Rattle.fields.specs.Rule.{Valid}
 
 pub contact-keeps : Keeps migrated_contact
 unfolding migrated_contact

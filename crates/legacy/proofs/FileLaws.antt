@@ -8,11 +8,8 @@ use lib.ListN.{length, take, drop, get_or}
 use lib.Dec.{ltb, eqb}
 use borrow.Author.Tests.{ltb-true}
 use Rattle.fields.specs.Bytes.{part, AllBytes}
-use Rattle.fields.specs.declared.rule.Validity.TheVariants.{Valid}
 use Rattle.fields.proofs.Laws.{get_d_part, bytes-part, each_same, each-valid, then-valid}
 use Rattle.m17.specs.declared.Edition.{Edition}
-use Rattle.channel.specs.declared.ContactIndex.{ContactIndex}
-use Rattle.channel.specs.declared.ContactIndex.TheVariants.{Nobody, Index}
 use Rattle.layout.specs.Places.{contact_count, channel_count, contact_place, channel_place, offset_place}
 use Rattle.file_rule.specs.File.{contact_at, contacts_rule, names_contact, index_ok, channel_at, channels_rule, file_rule}
 use Rattle.file_rule.proofs.Laws.{file-valid, contact-there, channel-there}
@@ -22,6 +19,8 @@ use Rattle.legacy.proofs.RunLaws.{length-changed, take-changed, record-changed, 
 use Rattle.legacy.proofs.LayoutLaws.{part_same, contact_count-same, channel_count-same, channel_place-same, header-same, offsets-same, banks-same}
 use Rattle.legacy.proofs.ContactLaws.{contact-keeps, contact-mode, contact-rule, contact-one, contact-bytes, contact-stays}
 use Rattle.legacy.proofs.ChannelLaws.{channel-keeps, channel-mode, channel-named, channel-rule, channel-one, channel-bytes, channel-stays}
+use Rattle.std.specs.Prelude.{Some, None, Option}
+use Rattle.fields.specs.Rule.{Valid}
 
 -- ---- places, in numbers
 
@@ -122,10 +121,10 @@ module _ (f : List ℕ) where
       (λ i h. rw (contact-walks i, migrated-contact i h) (contact-rule ed (part f (contact_place i) 39) (contact_place i) (bytes-part f (contact_place i) 39 b))))
 
   -- a contact's mode stays, so a channel names a contact where it did
-  names-agree : (mode : ℕ) (c : ContactIndex) → names_contact (migrated f) mode c ≡ names_contact f mode c
+  names-agree : (mode : ℕ) (c : (Option ℕ)) → names_contact (migrated f) mode c ≡ names_contact f mode c
   unfolding names_contact
-  names-agree mode Nobody = refl
-  names-agree mode (Index i) = rw (contact_count-same (migrated f) f migrated-front) (by (ltb i (contact_count f)) refl)
+  names-agree mode None = refl
+  names-agree mode (Some i) = rw (contact_count-same (migrated f) f migrated-front) (by (ltb i (contact_count f)) refl)
     where
       by : (t : Bool) → ltb i (contact_count f) ≡ t
           → t && eqb (get_or (migrated f) (contact_place i + 32) 0) mode ≡ t && eqb (get_or f (contact_place i + 32) 0) mode

@@ -7,8 +7,6 @@ use native.Mathlib.Omega.{arith}
 use lib.ListN.{length, get_or}
 use lib.Dec.{eqb}
 use Rattle.fields.specs.Rule.{◌then◌, unless, field_of, each}
-use Rattle.fields.specs.declared.rule.Validity.{Validity}
-use Rattle.fields.specs.declared.rule.Validity.TheVariants.{Valid, Refused}
 use Rattle.fields.proofs.Laws.{then-valid, field-valid, field-inside, each-valid}
 use Rattle.m17.specs.declared.Edition.{Edition}
 use Rattle.contact.specs.Contact.{dmr_rule, m17_rule, contact_rule}
@@ -16,28 +14,32 @@ use Rattle.channel.specs.Rule.{head_rule, channel_rule}
 use Rattle.layout.specs.Places.{contact_count, channel_count, contact_place, channel_place}
 use Rattle.file_rule.specs.File.{contact_at, contacts_rule, channel_at, channels_rule, file_rule}
 use Rattle.legacy.specs.Reading.{legacy_number_flag_ok, legacy_contact_rule, legacy_contact_at, legacy_contacts_rule, legacy_channel_rule, legacy_channel_at, legacy_channels_rule, legacy_file_rule}
+use Rattle.std.specs.Prelude.{Ok, Err}
+use Rattle.format.specs.declared.refusals.Reason.TheVariants as reason
+use Rattle.fields.specs.Rule.{Validity, Valid, Refused}
+use Rattle.format.specs.declared.refusals.Reason.{Reason}
 
 -- v is no refusal but one by 7
 abbrev OnlySeven : Validity → Type 0
-OnlySeven Valid = Unit
-OnlySeven (Refused n p) = n ≡ 7
+OnlySeven (Ok u) = Unit
+OnlySeven (Err e) = e.reason ≡ reason.Value
 
 seven-valid : (v : Validity) → v ≡ Valid → OnlySeven v
 seven-valid v e = rw e tt
 
 seven-then : (a b : Validity) → OnlySeven a → OnlySeven b → OnlySeven (a then b)
 unfolding ◌then◌
-seven-then Valid b h k = k
-seven-then (Refused n p) b h k = h
+seven-then (Ok u) b h k = k
+seven-then (Err e) b h k = h
 
-seven-unless : (ok : Bool) (p : ℕ) → OnlySeven (unless ok 7 p)
+seven-unless : (ok : Bool) (p : ℕ) → OnlySeven (unless ok reason.Value p)
 unfolding unless
 seven-unless true p = tt
 seven-unless false p = refl
 
 -- a field of 7 that is inside
-seven-field : (left base k n : ℕ) (ok : Bool) → k + n ≤ left → OnlySeven (field_of left base k n 7 ok)
-seven-field left base k n ok h = rw (field-inside left base k n 7 ok h) (seven-unless ok (base + k))
+seven-field : (left base k n : ℕ) (ok : Bool) → k + n ≤ left → OnlySeven (field_of left base k n reason.Value ok)
+seven-field left base k n ok h = rw (field-inside left base k n reason.Value ok h) (seven-unless ok (base + k))
 
 seven-each : (f : ℕ → Validity) (n w p : ℕ) → ((i : ℕ) → i < n → OnlySeven (f (p + i * w))) → OnlySeven (each f n w p)
 unfolding each
@@ -57,7 +59,7 @@ contact-seven ed s base h =
     seven-then _ _ (seven-valid _ name.0) (seven-then _ _ (seven-valid _ mode.0) (by (eqb (get_or s 32 0) 1) mode.1))
   where
     by : (t : Bool) → cond t (dmr_rule s base) (m17_rule ed s base) ≡ Valid
-        → OnlySeven (cond t (field_of (length s) base 33 4 7 true then field_of (length s) base 37 1 7 (legacy_number_flag_ok (get_or s 37 0)) then field_of (length s) base 38 1 7 (eqb (get_or s 38 0) 0)) (m17_rule ed s base))
+        → OnlySeven (cond t (field_of (length s) base 33 4 reason.Value true then field_of (length s) base 37 1 reason.Value (legacy_number_flag_ok (get_or s 37 0)) then field_of (length s) base 38 1 reason.Value (eqb (get_or s 38 0) 0)) (m17_rule ed s base))
     by true g =
         let id = then-valid _ _ g in
         let set = then-valid _ _ id.1 in
@@ -95,5 +97,5 @@ file-seven ed f h =
     (λ i l. channel-seven _ _ _ (each-valid (channel_at f) (channel_count f) 90 (channel_place f 0) channels.0 i l)))
     (seven-valid _ channels.1))))
 
-pub refused-by-seven : (ed : Edition) (f : List ℕ) (n p : ℕ) → file_rule ed f ≡ Valid → legacy_file_rule ed f ≡ Refused n p → n ≡ 7
+pub refused-by-seven : (ed : Edition) (f : List ℕ) (n : Reason) (p : ℕ) → file_rule ed f ≡ Valid → legacy_file_rule ed f ≡ Refused n p → n ≡ reason.Value
 refused-by-seven ed f n p h e = rw e at (file-seven ed f h)

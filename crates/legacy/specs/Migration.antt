@@ -1,9 +1,9 @@
 -- What migrating makes of a file that is valid by the legacy reading (document 02, [5]): the traits of every channel and the settings of every DMR contact
 -- in the new order. Byte 37 of an M17 contact belongs to its address and stays, as does every other byte. Defined for any bytes.
 use Rattle.std.specs.Prelude.{ℕ, zero, suc, ◌+◌, ◌*◌, ◌/◌, ◌%◌, cond, List, ◌++◌, take, drop, get_or, set, eqb}
-use Rattle.fields.specs.declared.rule.Validity.{Validity}
-use Rattle.fields.specs.declared.rule.Validity.TheVariants.{Valid, Refused}
 use Rattle.layout.specs.Places.{contact_count, channel_count, contact_place, channel_place}
+use Rattle.std.specs.Prelude.{Ok, Err}
+use Rattle.fields.specs.Rule.{Validity}
 
 -- bits 7 and 6 to bits 1 and 0, bit 5 to bit 2, and the five bits below them, zero in every accepted file, to the five above
 unfoldable pub migrated_byte : ℕ → ℕ
@@ -41,5 +41,5 @@ migrated f = channels_migrated (contacts_migrated f)
 
 -- what the call leaves, by the legacy reading's validity: a refused file stays as it is
 unfoldable pub migrated_by : Validity → List ℕ → List ℕ
-migrated_by Valid f = migrated f
-migrated_by (Refused n p) f = f
+migrated_by (Ok u) f = migrated f
+migrated_by (Err e) f = f

@@ -3,7 +3,6 @@
 use Rattle.std.specs.Prelude.{ℕ, ◌/◌, ◌%◌, Bool, ◌&&◌, List, get_or, leb, eqb}
 use Rattle.bits.specs.declared.NumberFlag.{NumberFlag}
 use Rattle.fields.specs.Bytes.{part}
-use Rattle.fields.specs.declared.rule.Validity.{Validity}
 use Rattle.m17.specs.declared.Edition.{Edition}
 use Rattle.contact.specs.declared.Settings.{Settings}
 use Rattle.contact.specs.declared.Contact.{Contact}
@@ -13,6 +12,7 @@ use Rattle.channel.specs.declared.Channel.{Channel}
 use Rattle.channel.specs.Rule.{head_rule_by, channel_rule_by}
 use Rattle.channel_reader.specs.Reading.{common_of_by, channel_of_by}
 use Rattle.file_rule.specs.File.{contacts_rule_by, index_ok, channels_rule_by, file_rule_by}
+use Rattle.fields.specs.Rule.{Validity}
 
 -- ---- traits and settings: a number in bits 7 and 6 (0 to 2), a flag in bit 5, the rest zero
 

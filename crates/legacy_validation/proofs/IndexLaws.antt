@@ -11,11 +11,11 @@ use Rattle.channel.proofs.Laws.{named-unread-by, dmr-named, m17-named}
 use Rattle.file_rule.specs.File.{names_contact, index_ok}
 use Rattle.legacy.specs.Reading.{legacy_channel_rule}
 
-pub index-by-bytes : (f s : List ℕ) (p : ℕ)
+pub index_by_bytes : (f s : List ℕ) (p : ℕ)
     → legacy_channel_rule s p (index_ok f s)
     ≡ legacy_channel_rule s p (names_contact f (get_or s 0 0) (contact_index_of (num s (contact_index_place (get_or s 0 0)) 2)))
 unfolding legacy_channel_rule index_ok mode_ok
-index-by-bytes f s p =
+index_by_bytes f s p =
     named-unread-by s p _ _
     (λ e l. rw (dmr-named s e l, e))
     (λ e l. rw (m17-named s e l, e))

@@ -8,51 +8,47 @@ ghost use Rattle.legacy.specs.Reading.{legacy_contact_at, legacy_contacts_rule, 
 ghost use Rattle.legacy_validation.specs.Validation.{legacy_validation};
 
 use fields::numbers::byte_at;
-use fields::rule::{Validity, first};
 use file_channels::index_ok;
 use file_channels::whole::index_valid;
-use format::refusals::TOO_LONG;
-use format::sizes::{CHANNEL_SIZE, CONTACT_SIZE, FILE_MAX, HEADER_SIZE};
-use layout::places::{channel_count, channel_place, contact_count, counts_of, record_bytes};
+use format::refusals::{Reason, Refusal};
+use format::sizes::{CHANNEL_SIZE, CONTACT_SIZE, FILE_MAX};
+use layout::Counts;
+use layout::places::{
+    channel_count, channel_place, contact_count, contact_place, counts_of, record_bytes,
+};
 use layout_validation::banks::{validate_banks, validate_offsets};
 use layout_validation::header::validate_header;
 use legacy::number_flag_ok;
 use m17::Edition;
-use validation::Validated;
 
 // The contact at p: its fields are looked at one by one only where it is not valid.
-fn contact_at(f: &[u8], p: usize, edition: Edition) -> Validity
+#[tactic(auto, unfolding(legacy::specs::Reading::legacy_contact_rule), using(fields::proofs::Laws::valid_by_test))]
+fn contact_at(f: &[u8], p: usize, edition: Edition) -> Result<(), Refusal>
     requires { p < 2 ^ 62 }
     ensures { result ≡ legacy_contact_at edition f.now p }
 {
     let s = record_bytes(f, p, CONTACT_SIZE);
     if s.len() == CONTACT_SIZE {
         if contact_validation::whole::is_valid_by(s, number_flag_ok(s[37]), edition) {
-            return Validity::Valid;
+            return Ok(());
         }
     }
     contact_validation::validate_by(s, p, number_flag_ok(byte_at(s, 37)), edition)
 }
 
-fn validate_contacts(f: &[u8], edition: Edition) -> Validity
+#[tactic(auto, unfolding(legacy::specs::Reading::legacy_contacts_rule, layout::specs::Places::contact_place), using(fields::proofs::Laws::each_more, fields::proofs::Laws::each_refused, fields::proofs::Laws::each_none))]
+fn validate_contacts(f: &[u8], edition: Edition) -> Result<(), Refusal>
     ensures { result ≡ legacy_contacts_rule edition f.now }
 {
-    let contacts = contact_count(f);
-    let mut i = 0;
-    let mut p = HEADER_SIZE;
-    while i < contacts {
-        let v = contact_at(f, p, edition);
-        if let Validity::Refused(_, _) = v {
-            return v;
-        }
-        i += 1;
-        p += CONTACT_SIZE;
+    for i in 0..contact_count(f) {
+        contact_at(f, contact_place(i), edition)?;
     }
-    Validity::Valid
+    Ok(())
 }
 
 // The channel at p, of a file with so many contacts: its fields are looked at one by one only where it is not valid.
-fn channel_at(f: &[u8], p: usize, contacts: usize) -> Validity
+#[tactic(auto, unfolding(legacy::specs::Reading::legacy_channel_rule), using(fields::proofs::Laws::valid_by_test, crate::proofs::IndexLaws::index_by_bytes))]
+fn channel_at(f: &[u8], p: usize, contacts: usize) -> Result<(), Refusal>
     requires { (p < 2 ^ 62) × (contacts ≡ contact_count f.now) }
     ensures { result ≡ legacy_channel_at f.now p }
 {
@@ -60,50 +56,47 @@ fn channel_at(f: &[u8], p: usize, contacts: usize) -> Validity
     if s.len() == CHANNEL_SIZE {
         let named = index_valid(f, s, contacts);
         if channel_validation::whole::is_valid_by(s, named, number_flag_ok(s[1])) {
-            return Validity::Valid;
+            return Ok(());
         }
     }
     channel_validation::validate_by(s, p, index_ok(f, s), number_flag_ok(byte_at(s, 1)))
 }
 
-fn validate_channels(f: &[u8]) -> Validity
+#[tactic(auto, unfolding(legacy::specs::Reading::legacy_channels_rule), using(fields::proofs::Laws::each_more, fields::proofs::Laws::each_refused, fields::proofs::Laws::each_none))]
+fn validate_channels(f: &[u8]) -> Result<(), Refusal>
     ensures { result ≡ legacy_channels_rule f.now }
 {
     let contacts = contact_count(f);
-    let channels = channel_count(f);
-    let mut i = 0;
-    let mut p = channel_place(f, 0);
-    while i < channels {
-        let v = channel_at(f, p, contacts);
-        if let Validity::Refused(_, _) = v {
-            return v;
-        }
-        i += 1;
-        p += CHANNEL_SIZE;
+    let start = channel_place(f, 0);
+    for i in 0..channel_count(f) {
+        channel_at(f, start + i * CHANNEL_SIZE, contacts)?;
     }
-    Validity::Valid
+    Ok(())
 }
 
 // The first refusal of a file by the legacy reading.
-pub fn validity_of(f: &[u8], edition: Edition) -> Validity
+#[tactic(auto, unfolding(legacy::specs::Reading::legacy_file_rule), using(file_rule::proofs::FileLaws::file_long, file_rule::proofs::FileLaws::file_fits, fields::proofs::Laws::ok_then, fields::proofs::Laws::err_then))]
+pub fn validity_of(f: &[u8], edition: Edition) -> Result<(), Refusal>
     ensures { result ≡ legacy_file_rule edition f.now }
 {
     if FILE_MAX < f.len() {
-        return Validity::Refused(TOO_LONG, 0);
+        return Err(Refusal {
+            reason: Reason::TooLong,
+            place: 0,
+        });
     }
-    let header = validate_header(f);
-    let contacts = validate_contacts(f, edition);
-    let channels = validate_channels(f);
-    let banks = first(validate_offsets(f), validate_banks(f));
-    first(header, first(contacts, first(channels, banks)))
+    validate_header(f)?;
+    validate_contacts(f, edition)?;
+    validate_channels(f)?;
+    validate_offsets(f)?;
+    validate_banks(f)
 }
 
 // Whether a file is accepted by the legacy reading, with its three counts, or its refusal.
-pub fn validate(f: &[u8], edition: Edition) -> Validated
+#[tactic(auto, unfolding(crate::specs::Validation::legacy_validation, validation::specs::Validation::validated_by))]
+pub fn validate(f: &[u8], edition: Edition) -> Result<Counts, Refusal>
     ensures { result ≡ legacy_validation edition f.now }
 {
-    match validity_of(f, edition) {
-        Validity::Valid => Validated::Accepted(counts_of(f)),
-        Validity::Refused(n, p) => Validated::Refused(n, p),
-    }
+    validity_of(f, edition)?;
+    Ok(counts_of(f))
 }

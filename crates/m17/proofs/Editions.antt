@@ -13,15 +13,17 @@ use Rattle.m17.specs.declared.Edition.TheVariants.{Older, Newer}
 use Rattle.m17.specs.declared.Address.{Address}
 use Rattle.m17.specs.declared.Address.TheVariants.{Callsign}
 use Rattle.m17.specs.declared.Address.TheVariants as address
-use Rattle.m17.specs.declared.Encoded.{Encoded}
-use Rattle.m17.specs.declared.Encoded.TheVariants.{Number}
-use Rattle.m17.specs.declared.Decoded.TheVariants.{Text, Broadcast, Refused}
+use Rattle.m17.specs.declared.Decoded.TheVariants.{Text, Broadcast}
 use Rattle.m17.specs.Address.{broadcast, last_plain, last_of, hash_signs, foreign_place, number_of, encoding, is_callsign, address_ok, address_valid, text_up_to, text_for, decoding, decoded_by, decoded_into}
 use Rattle.m17.specs.Before.{encoding_before, is_callsign_before, address_ok_before, address_valid_before, decoding_before, decoded_by_before, decoded_into_before}
 use Rattle.m17.proofs.Laws.{within_in, callsign-bounds, last-ge, broadcast-no-callsign}
 use Rattle.m17.proofs.OneToOne.{text-plain, text-returns, number-is-callsign, number-returns}
+use Rattle.std.specs.Prelude.{Ok, Result}
+use Rattle.format.specs.declared.refusals.Reason.TheVariants as reason
+use Rattle.format.specs.declared.refusals.Refusal.{Refusal}
+use Rattle.fields.specs.Rule.{Refused}
 
-number-injective : (n m : ℕ) → ◌≡◌ {A = Encoded} (Number n) (Number m) → n ≡ m
+number-injective : (n m : ℕ) → ◌≡◌ {A = (Result ℕ Refusal)} (Ok n) (Ok m) → n ≡ m
 number-injective n m e = cc
 
 -- ---- the older answers as before
@@ -52,8 +54,8 @@ module _ (n : ℕ) where
   older-decodes room = rw (← older-callsign n) (by (is_callsign Older n) refl)
     where
       by : (b : Bool) → is_callsign Older n ≡ b
-          → cond (ltb room 9) (Refused 24 0) (cond b (Text (length (text_for n))) (cond (eqb n broadcast) Broadcast (Refused 23 0)))
-          ≡ cond (ltb room 9) (Refused 24 0) (cond b (Text (length (text_up_to 9 n))) (cond (eqb n broadcast) Broadcast (Refused 23 0)))
+          → cond (ltb room 9) (Refused reason.CallsignBuffer 0) (cond b (Ok (Text (length (text_for n)))) (cond (eqb n broadcast) (Ok Broadcast) (Refused reason.AddressNumber 0)))
+          ≡ cond (ltb room 9) (Refused reason.CallsignBuffer 0) (cond b (Ok (Text (length (text_up_to 9 n)))) (cond (eqb n broadcast) (Ok Broadcast) (Refused reason.AddressNumber 0)))
       by true t = rw (older-text t)
       by false t = refl
 
@@ -63,8 +65,8 @@ module _ (n : ℕ) where
   decoded-alike out = by (ltb (length out) 9) (is_callsign Older n) (eqb n broadcast) refl
     where
       by : (short b d : Bool) → is_callsign Older n ≡ b
-          → decoded_by (cond short (Refused 24 0) (cond b (Text (length (text_for n))) (cond d Broadcast (Refused 23 0)))) out n
-          ≡ decoded_by_before (cond short (Refused 24 0) (cond b (Text (length (text_for n))) (cond d Broadcast (Refused 23 0)))) out n
+          → decoded_by (cond short (Refused reason.CallsignBuffer 0) (cond b (Ok (Text (length (text_for n)))) (cond d (Ok Broadcast) (Refused reason.AddressNumber 0)))) out n
+          ≡ decoded_by_before (cond short (Refused reason.CallsignBuffer 0) (cond b (Ok (Text (length (text_for n)))) (cond d (Ok Broadcast) (Refused reason.AddressNumber 0)))) out n
       by true b d t = unfold decoded_by decoded_by_before in refl
       by false true d t = unfold decoded_by decoded_by_before in rw (older-text t)
       by false false true t = unfold decoded_by decoded_by_before in refl
@@ -95,7 +97,7 @@ address-newer e n t = by (is_callsign Older n) (eqb n broadcast) refl t
     by false true g h = or-true (is_callsign e n)
     by false false g h = absurd (false≢true h)
 
-pub text-newer : (e : Edition) (s : List ℕ) (n : ℕ) → encoding Older s ≡ Number n → encoding e s ≡ Number n
+pub text-newer : (e : Edition) (s : List ℕ) (n : ℕ) → encoding Older s ≡ Ok n → encoding e s ≡ Ok n
 text-newer e s n g =
     let t : text_for n ≡ s = text-returns Older s n g in
     rw t at (number-returns e n (callsign-newer e n (number-is-callsign Older s n g)))
@@ -126,7 +128,7 @@ pub one-text : (d e : Edition) (n : ℕ) → address_ok d n ≡ true → address
 unfolding decoded_into decoding
 one-text d e n g h = ((λ room. rw (alike d e n g h)), (λ out. rw (alike d e n g h)))
 
-pub one_number : (d e : Edition) (s : List ℕ) (n m : ℕ) → encoding d s ≡ Number n → encoding e s ≡ Number m → n ≡ m
+pub one_number : (d e : Edition) (s : List ℕ) (n m : ℕ) → encoding d s ≡ Ok n → encoding e s ≡ Ok m → n ≡ m
 one_number Older e s n m g h = number-injective n m (sym (text-newer e s n g) ∙ h)
 one_number Newer Older s n m g h = number-injective n m (sym g ∙ text-newer Newer s m h)
 one_number Newer Newer s n m g h = number-injective n m (sym g ∙ h)

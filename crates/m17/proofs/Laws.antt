@@ -15,10 +15,12 @@ use Rattle.m17.specs.declared.Edition.{Edition}
 use Rattle.m17.specs.declared.Edition.TheVariants.{Older, Newer}
 use Rattle.m17.specs.declared.Address.{Address}
 use Rattle.m17.specs.declared.Address.TheVariants.{Callsign, Broadcast}
-use Rattle.m17.specs.declared.Encoded.TheVariants as encoded
 use Rattle.m17.specs.declared.Decoded.TheVariants as decoded
 use Rattle.fields.proofs.TableLaws.{every, below}
 use Rattle.m17.specs.Address.{broadcast, hash_sign, last_hash, last_plain, last_of, hash_signs, foreign_place, number_of, decoding, decoded_by, decoded_into, within, digit_of, foreign, char_of, address_of, first_foreign, ends_in_space, encoding, is_callsign, address_ok, text_up_to, address_number, address_for, address_valid}
+use Rattle.std.specs.Prelude.{Ok}
+use Rattle.format.specs.declared.refusals.Reason.TheVariants as reason
+use Rattle.fields.specs.Rule.{Refused}
 
 pub split : (a b : ℕ) → (a ≤ b) ⊎ (b < a)
 split a b = go (leb a b) refl
@@ -343,16 +345,16 @@ native-signs e s f = ⊎_elim (λ z. z) (λ h. absurd (no h.rest (rw h.begins at
 
 -- ---- the answers to a text, by what holds of it
 
-pub encoding-length : (e : Edition) (s : List ℕ) → within 1 9 (length s) ≡ false → encoding e s ≡ encoded.Refused 20 0
+pub encoding-length : (e : Edition) (s : List ℕ) → within 1 9 (length s) ≡ false → encoding e s ≡ Refused reason.CallsignLength 0
 unfolding encoding
 encoding-length e s l = rw l
 
 module _ (e : Edition) (s : List ℕ) (some : 0 < length s) (few : length s ≤ 9) where
-  pub encoding-foreign : foreign_place e s < length s → encoding e s ≡ encoded.Refused 21 (foreign_place e s)
+  pub encoding-foreign : foreign_place e s < length s → encoding e s ≡ Refused reason.CallsignForeign (foreign_place e s)
   unfolding encoding
   encoding-foreign f = rw (within_in 1 9 (length s) some few, lt-ltb (foreign_place e s) (length s) f)
 
-  pub encoding-space : length s ≤ foreign_place e s → get_or s (length s - 1) 0 ≡ 32 → encoding e s ≡ encoded.Refused 22 0
+  pub encoding-space : length s ≤ foreign_place e s → get_or s (length s - 1) 0 ≡ 32 → encoding e s ≡ Refused reason.CallsignSpace 0
   unfolding encoding
   encoding-space f g =
       rw (
@@ -362,11 +364,11 @@ module _ (e : Edition) (s : List ℕ) (some : 0 < length s) (few : length s ≤ 
         eq-eqb (get_or s (length s - 1) 0) 32 g,
       )
 
-  pub encoding-solid : length s ≤ foreign_place e s → ends_in_space s ≡ false → encoding e s ≡ encoded.Number (number_of e s)
+  pub encoding-solid : length s ≤ foreign_place e s → ends_in_space s ≡ false → encoding e s ≡ Ok (number_of e s)
   unfolding encoding
   encoding-solid f g = rw (within_in 1 9 (length s) some few, le-ltb (foreign_place e s) (length s) f, g)
 
-  pub encoding-number : length s ≤ foreign_place e s → (get_or s (length s - 1) 0 ≡ 32 → ⊥) → encoding e s ≡ encoded.Number (number_of e s)
+  pub encoding-number : length s ≤ foreign_place e s → (get_or s (length s - 1) 0 ≡ 32 → ⊥) → encoding e s ≡ Ok (number_of e s)
   encoding-number f g = encoding-solid f (ends_last s (length s - 1) (omega arith) ∙ ne_eqb (get_or s (length s - 1) 0) 32 g)
 
 -- ---- the answers to a number, by what holds of it
@@ -392,16 +394,16 @@ callsign-bounds e n t =
 pub callsign-range : (e : Edition) (n : ℕ) → is_callsign e n ≡ true → (0 < n) × (n ≤ last_hash)
 callsign-range e n t = let b : (0 < n) × (n ≤ last_of e) = callsign-bounds e n t in (b.0, omega (arith, last-le e))
 
-pub decoding-short : (e : Edition) (out : List ℕ) (n : ℕ) → length out < 9 → (decoded.Refused 24 0 ≡ decoding e (length out) n) × (out ≡ decoded_into e out n)
+pub decoding-short : (e : Edition) (out : List ℕ) (n : ℕ) → length out < 9 → (Refused reason.CallsignBuffer 0 ≡ decoding e (length out) n) × (out ≡ decoded_into e out n)
 unfolding decoding decoded_into decoded_by
 decoding-short e out n h = simp (lt-ltb (length out) 9 h) (refl, refl)
 
 module _ (e : Edition) (out : List ℕ) (n : ℕ) (room : 9 ≤ length out) where
-  pub decoding-broadcast : is_callsign e n ≡ false → n ≡ broadcast → (decoded.Broadcast ≡ decoding e (length out) n) × (out ≡ decoded_into e out n)
+  pub decoding-broadcast : is_callsign e n ≡ false → n ≡ broadcast → ((Ok decoded.Broadcast) ≡ decoding e (length out) n) × (out ≡ decoded_into e out n)
   unfolding decoding decoded_into decoded_by
   decoding-broadcast t b = rw (le-ltb (length out) 9 room, t, eq-eqb n broadcast b) (refl, refl)
 
-  pub decoding-invalid : is_callsign e n ≡ false → (n ≡ broadcast → ⊥) → (decoded.Refused 23 0 ≡ decoding e (length out) n) × (out ≡ decoded_into e out n)
+  pub decoding-invalid : is_callsign e n ≡ false → (n ≡ broadcast → ⊥) → (Refused reason.AddressNumber 0 ≡ decoding e (length out) n) × (out ≡ decoded_into e out n)
   unfolding decoding decoded_into decoded_by
   decoding-invalid t b = rw (le-ltb (length out) 9 room, t, ne_eqb n broadcast b) (refl, refl)
 

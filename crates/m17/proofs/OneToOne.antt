@@ -3,7 +3,7 @@
 use Prim.Native.Nat.{ℕ, ◌+◌, ◌-◌, ◌*◌, ◌^◌, ◌≤◌, ◌<◌}
 use mathlib.Core.Path.{◌≡◌, refl, sym, ◌∙◌, ap}
 use mathlib.Core.Bool.{Bool, true, false, not, cond, ◌&&◌}
-use mathlib.Core.List.{List, [], ◌∷◌, ◌++◌}
+use mathlib.Core.List.{List, ◌∷◌, ◌++◌}
 use mathlib.Core.Logic.{⊎_elim}
 use native.Mathlib.Omega.{arith}
 use lib.ListN.{length, take, drop, replicate}
@@ -12,13 +12,16 @@ use lib.Dec.{leb, ltb, eqb}
 use borrow.Author.Tests.{le-leb, lt-leb, leb-true, ltb-false}
 use Rattle.m17.specs.declared.Edition.{Edition}
 use Rattle.m17.specs.declared.Edition.TheVariants.{Older, Newer}
-use Rattle.m17.specs.declared.Encoded.{Encoded}
-use Rattle.m17.specs.declared.Encoded.TheVariants.{Number, Refused}
 use Rattle.m17.specs.declared.Decoded.{Decoded}
 use Rattle.m17.specs.declared.Decoded.TheVariants.{Text}
 use Rattle.m17.specs.declared.Decoded.TheVariants as decoded
 use Rattle.m17.specs.Address.{broadcast, decoding, decoded_by, decoded_into, within, address_of, first_foreign, ends_in_space, hash_sign, first_hash, last_hash, last_plain, last_of, hash_signs, foreign_place, number_of, encoding, is_callsign, text_up_to, text_for}
 use Rattle.m17.proofs.Laws.{split, and-true, foreign-le, within_in, address_below, address-pos, address-of-text, text-of-address, native-text, text-length, text-some, ends-text, ends-tail, ends-cons, encoding-solid, callsign-bounds, last-ge, HashText, signs-or-none, native-signs}
+use Rattle.std.specs.Prelude.{Ok, Result}
+use Rattle.format.specs.declared.refusals.Reason.TheVariants as reason
+use Rattle.format.specs.declared.refusals.Refusal.{Refusal}
+use Rattle.fields.specs.Rule.{Refused}
+use Rattle.format.specs.declared.refusals.Reason.{Reason}
 
 -- ---- a number's text, by whether it is a hash address
 
@@ -43,7 +46,7 @@ record EncodedText (e : Edition) (s : List ℕ) (n : ℕ) : Type 0 where
   its : number_of e s ≡ n
 
 -- past a refusal that was not given
-past : (b : Bool) (a p : ℕ) (y : Encoded) (n : ℕ) → cond b (Refused a p) y ≡ Number n → (b ≡ false) × (y ≡ Number n)
+past : (b : Bool) (a : Reason) (p : ℕ) (y : Result ℕ Refusal) (n : ℕ) → cond b (Refused a p) y ≡ Ok n → (b ≡ false) × (y ≡ Ok n)
 past true a p y n e = let z : ◌≡◌ {A = ℕ} 0 1 = cc in absurd (omega arith)
 past false a p y n e = (refl, e)
 
@@ -51,14 +54,14 @@ not-false : (b : Bool) → not b ≡ false → b ≡ true
 not-false true e = refl
 not-false false e = sym e
 
-encoded-text : (e : Edition) (s : List ℕ) (n : ℕ) → encoding e s ≡ Number n → EncodedText e s n
+encoded-text : (e : Edition) (s : List ℕ) (n : ℕ) → encoding e s ≡ Ok n → EncodedText e s n
 unfolding encoding within
 encoded-text e s n g =
-    let a = past (not (leb 1 (length s) && leb (length s) 9)) 20 0 _ n g in
-    let b = past (ltb (foreign_place e s) (length s)) 21 (foreign_place e s) _ n a.1 in
-    let d = past (ends_in_space s) 22 0 _ n b.1 in
+    let a = past (not (leb 1 (length s) && leb (length s) 9)) reason.CallsignLength 0 _ n g in
+    let b = past (ltb (foreign_place e s) (length s)) reason.CallsignForeign (foreign_place e s) _ n a.1 in
+    let d = past (ends_in_space s) reason.CallsignSpace 0 _ n b.1 in
     let l = and-true (leb 1 (length s)) (leb (length s) 9) (not-false _ a.0) in
-    let i : ◌≡◌ {A = Encoded} (Number (number_of e s)) (Number n) = d.1 in
+    let i : ◌≡◌ {A = Result ℕ Refusal} (Ok (number_of e s)) (Ok n) = d.1 in
     record {
       some = leb-true 1 (length s) l.0;
       few = leb-true (length s) 9 l.1;
@@ -110,7 +113,7 @@ hashed-returns : (t : List ℕ) (n : ℕ) → HashedText t n → text_for n ≡ 
 hashed-returns t n p =
     rw (← p.its) (text-hash (address_of t) ∙ ap (λ r. hash_sign ∷ r) (text-of-address 8 t p.few p.native p.solid))
 
-pub text-returns : (e : Edition) (s : List ℕ) (n : ℕ) → encoding e s ≡ Number n → text_for n ≡ s
+pub text-returns : (e : Edition) (s : List ℕ) (n : ℕ) → encoding e s ≡ Ok n → text_for n ≡ s
 text-returns e s n g =
     let a : EncodedText e s n = encoded-text e s n g in
     ⊎_elim (λ z. plain-returns s n a.few a.solid (plain-text e s n a z))
@@ -119,7 +122,7 @@ text-returns e s n g =
 
 -- ---- and its number is a callsign's
 
-pub number-is-callsign : (e : Edition) (s : List ℕ) (n : ℕ) → encoding e s ≡ Number n → is_callsign e n ≡ true
+pub number-is-callsign : (e : Edition) (s : List ℕ) (n : ℕ) → encoding e s ≡ Ok n → is_callsign e n ≡ true
 unfolding is_callsign
 number-is-callsign e s n g =
     let a : EncodedText e s n = encoded-text e s n g in
@@ -137,15 +140,15 @@ number-is-callsign e s n g =
 
 -- ---- the number of a callsign number's text is the number
 
-plain-encodes : (e : Edition) (n : ℕ) → 0 < n → n < 40 ^ 9 → encoding e (text_up_to 9 n) ≡ Number n
+plain-encodes : (e : Edition) (n : ℕ) → 0 < n → n < 40 ^ 9 → encoding e (text_up_to 9 n) ≡ Ok n
 unfolding foreign_place number_of
 plain-encodes e n p h =
     let f : first_foreign (text_up_to 9 n) ≡ length (text_up_to 9 n) = native-text 9 n in
     let z : hash_signs e (text_up_to 9 n) ≡ 0 = native-signs e (text_up_to 9 n) f in
     encoding-solid e (text_up_to 9 n) (text-some 8 n p) (text-length 9 n) (rw z (omega arith)) (ends-text 9 n h)
-    ∙ ap Number (rw z (omega (arith, address-of-text 9 n h)))
+    ∙ ap Ok (rw z (omega (arith, address-of-text 9 n h)))
 
-hash-encodes : (n : ℕ) → n < 40 ^ 8 → encoding Newer (hash_sign ∷ text_up_to 8 n) ≡ Number (first_hash + n)
+hash-encodes : (n : ℕ) → n < 40 ^ 8 → encoding Newer (hash_sign ∷ text_up_to 8 n) ≡ Ok (first_hash + n)
 unfolding foreign_place number_of hash_signs
 hash-encodes n h =
     let t : List ℕ = text_up_to 8 n in
@@ -153,9 +156,9 @@ hash-encodes n h =
     let l : length (text_up_to 8 n) ≤ 8 = text-length 8 n in
     encoding-solid Newer (hash_sign ∷ text_up_to 8 n) (omega arith) (omega arith) (omega arith)
     (ends-cons hash_sign (text_up_to 8 n) (λ z. refl) (ends-text 8 n h))
-    ∙ ap Number (omega (arith, address-of-text 8 n h))
+    ∙ ap Ok (omega (arith, address-of-text 8 n h))
 
-pub number-returns : (e : Edition) (n : ℕ) → is_callsign e n ≡ true → encoding e (text_for n) ≡ Number n
+pub number-returns : (e : Edition) (n : ℕ) → is_callsign e n ≡ true → encoding e (text_for n) ≡ Ok n
 number-returns e n c =
     let r : (0 < n) × (n ≤ last_of e) = callsign-bounds e n c in
     ⊎_elim
@@ -163,37 +166,37 @@ number-returns e n c =
     (λ h. by e r.1 h)
     (split n last_plain)
   where
-    by : (d : Edition) → n ≤ last_of d → last_plain < n → encoding d (text_for n) ≡ Number n
+    by : (d : Edition) → n ≤ last_of d → last_plain < n → encoding d (text_for n) ≡ Ok n
     by Older l h = absurd (omega arith)
     by Newer l h =
         let k : first_hash + (n - first_hash) ≡ n = omega arith in
         let t : text_for n ≡ hash_sign ∷ text_up_to 8 (n - first_hash) = rw k at (text-hash (n - first_hash)) in
-        rw t (hash-encodes (n - first_hash) (omega arith) ∙ ap Number k)
+        rw t (hash-encodes (n - first_hash) (omega arith) ∙ ap Ok k)
 
 -- ---- two texts with one number are one text, whatever the editions
 
-pub one-to-one : (d e : Edition) (s t : List ℕ) (n : ℕ) → encoding d s ≡ Number n → encoding e t ≡ Number n → s ≡ t
+pub one-to-one : (d e : Edition) (s t : List ℕ) (n : ℕ) → encoding d s ≡ Ok n → encoding e t ≡ Ok n → s ≡ t
 one-to-one d e s t n g f = sym (text-returns d s n g) ∙ text-returns e t n f
 
 -- ---- what is written into a buffer for a number is a text of that number
 
-written-text : (out : List ℕ) (n : ℕ) → take (length (text_for n)) (decoded_by (Text (length (text_for n))) out n) ≡ text_for n
+written-text : (out : List ℕ) (n : ℕ) → take (length (text_for n)) (decoded_by (Ok (Text (length (text_for n)))) out n) ≡ text_for n
 unfolding decoded_by
 written-text out n = take-append_seam (text_for n) (replicate (9 - length (text_for n)) 0 ++ drop 9 out)
 
-pub written-returns : (e : Edition) (out : List ℕ) (n len : ℕ) → decoding e (length out) n ≡ Text len
-    → encoding e (take len (decoded_into e out n)) ≡ Number n
+pub written-returns : (e : Edition) (out : List ℕ) (n len : ℕ) → decoding e (length out) n ≡ Ok (Text len)
+    → encoding e (take len (decoded_into e out n)) ≡ Ok n
 unfolding decoded_into decoding
 written-returns e out n len g = by (ltb (length out) 9) (is_callsign e n) (eqb n broadcast) refl g
   where
-    text : (l : ℕ) → is_callsign e n ≡ true → ◌≡◌ {A = Decoded} (Text (length (text_for n))) (Text l) → encoding e (take l (decoded_by (Text (length (text_for n))) out n)) ≡ Number n
+    text : (l : ℕ) → is_callsign e n ≡ true → ◌≡◌ {A = (Result Decoded Refusal)} (Ok (Text (length (text_for n)))) (Ok (Text l)) → encoding e (take l (decoded_by (Ok (Text (length (text_for n)))) out n)) ≡ Ok n
     text l c h =
         let k : length (text_for n) ≡ l = cc in
         rw (← k, written-text out n) (number-returns e n c)
 
     by : (short c b : Bool) → is_callsign e n ≡ c
-        → cond short (decoded.Refused 24 0) (cond c (Text (length (text_for n))) (cond b decoded.Broadcast (decoded.Refused 23 0))) ≡ Text len
-        → encoding e (take len (decoded_by (cond short (decoded.Refused 24 0) (cond c (Text (length (text_for n))) (cond b decoded.Broadcast (decoded.Refused 23 0)))) out n)) ≡ Number n
+        → cond short (Refused reason.CallsignBuffer 0) (cond c (Ok (Text (length (text_for n)))) (cond b (Ok decoded.Broadcast) (Refused reason.AddressNumber 0))) ≡ Ok (Text len)
+        → encoding e (take len (decoded_by (cond short (Refused reason.CallsignBuffer 0) (cond c (Ok (Text (length (text_for n)))) (cond b (Ok decoded.Broadcast) (Refused reason.AddressNumber 0)))) out n)) ≡ Ok n
     by true c b z h = let x : ◌≡◌ {A = ℕ} 0 1 = cc in absurd (omega arith)
     by false true b z h = text len z h
     by false false true z h = let x : ◌≡◌ {A = ℕ} 0 1 = cc in absurd (omega arith)

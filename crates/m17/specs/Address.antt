@@ -1,14 +1,15 @@
 -- M17 addresses (document 01, "M17 addresses"): a text of 1 to 9 characters is the sum of digit × 40^position. By the newer edition a text may begin with a
 -- hash sign (document 02, [10]). A callsign is whatever has a text, a hash address too.
-use Rattle.std.specs.Prelude.{ℕ, zero, suc, ◌+◌, ◌-◌, ◌*◌, ◌/◌, ◌%◌, Bool, true, false, ◌&&◌, ◌||◌, not, cond, List, [], ◌∷◌, ◌++◌, length, drop, replicate, leb, ltb, eqb}
+use Rattle.std.specs.Prelude.{ℕ, zero, suc, ◌+◌, ◌-◌, ◌*◌, ◌/◌, ◌%◌, Bool, true, false, ◌&&◌, ◌||◌, not, cond, List, [], ◌∷◌, ◌++◌, length, drop, replicate, leb, ltb, eqb, Ok, Err, Result}
 use Rattle.m17.specs.declared.Edition.{Edition}
 use Rattle.m17.specs.declared.Edition.TheVariants.{Older, Newer}
 use Rattle.m17.specs.declared.Address.{Address}
 use Rattle.m17.specs.declared.Address.TheVariants.{Callsign, Broadcast}
-use Rattle.m17.specs.declared.Encoded.{Encoded}
-use Rattle.m17.specs.declared.Encoded.TheVariants as encoded
 use Rattle.m17.specs.declared.Decoded.{Decoded}
 use Rattle.m17.specs.declared.Decoded.TheVariants as decoded
+use Rattle.format.specs.declared.refusals.Reason.TheVariants as reason
+use Rattle.format.specs.declared.refusals.Refusal.{Refusal}
+use Rattle.fields.specs.Rule.{Refused}
 
 -- ---- digits and characters
 
@@ -80,13 +81,13 @@ foreign_place e s = hash_signs e s + first_foreign (drop (hash_signs e s) s)
 unfoldable pub number_of : Edition → List ℕ → ℕ
 number_of e s = hash_signs e s * first_hash + address_of (drop (hash_signs e s) s)
 
--- 20 a text of 0 or over 9 characters, the hash sign counted; 21 a foreign character, at its position; 22 it ends in a space
-unfoldable pub encoding : Edition → List ℕ → Encoded
+-- refused: a text of 0 or over 9 characters, the hash sign counted; a foreign character, at its position; a text that ends in a space
+unfoldable pub encoding : Edition → List ℕ → Result ℕ Refusal
 encoding e s =
-    cond (not (within 1 9 (length s))) (encoded.Refused 20 0)
-    (cond (ltb (foreign_place e s) (length s)) (encoded.Refused 21 (foreign_place e s))
-    (cond (ends_in_space s) (encoded.Refused 22 0)
-    (encoded.Number (number_of e s))))
+    cond (not (within 1 9 (length s))) (Refused reason.CallsignLength 0)
+    (cond (ltb (foreign_place e s) (length s)) (Refused reason.CallsignForeign (foreign_place e s))
+    (cond (ends_in_space s) (Refused reason.CallsignSpace 0)
+    (Ok (number_of e s))))
 
 -- ---- a number to its text
 
@@ -123,19 +124,19 @@ text_up_to (suc k) n = cond (eqb n 0) [] (char_of (n % 40) ∷ text_up_to k (n /
 unfoldable pub text_for : ℕ → List ℕ
 text_for n = cond (leb n last_plain) (text_up_to 9 n) (hash_sign ∷ text_up_to 8 (n - first_hash))
 
--- 24 a buffer under 9 bytes; 23 an invalid number; a callsign answers its text's length
-unfoldable pub decoding : Edition → ℕ → ℕ → Decoded
+-- refused: a buffer under 9 bytes, then an invalid number; a callsign answers its text's length
+unfoldable pub decoding : Edition → ℕ → ℕ → Result Decoded Refusal
 decoding e room n =
-    cond (ltb room 9) (decoded.Refused 24 0)
-    (cond (is_callsign e n) (decoded.Text (length (text_for n)))
-    (cond (eqb n broadcast) decoded.Broadcast
-    (decoded.Refused 23 0)))
+    cond (ltb room 9) (Refused reason.CallsignBuffer 0)
+    (cond (is_callsign e n) (Ok (decoded.Text (length (text_for n))))
+    (cond (eqb n broadcast) (Ok decoded.Broadcast)
+    (Refused reason.AddressNumber 0)))
 
 -- the buffer after an answer: of a callsign the text and then zeros over the first nine bytes; otherwise all as lent
-unfoldable pub decoded_by : Decoded → List ℕ → ℕ → List ℕ
-decoded_by (decoded.Text len) out n = text_for n ++ (replicate (9 - length (text_for n)) 0 ++ drop 9 out)
-decoded_by decoded.Broadcast out n = out
-decoded_by (decoded.Refused number place) out n = out
+unfoldable pub decoded_by : Result Decoded Refusal → List ℕ → ℕ → List ℕ
+decoded_by (Ok (decoded.Text len)) out n = text_for n ++ (replicate (9 - length (text_for n)) 0 ++ drop 9 out)
+decoded_by (Ok decoded.Broadcast) out n = out
+decoded_by (Err e) out n = out
 
 unfoldable pub decoded_into : Edition → List ℕ → ℕ → List ℕ
 decoded_into e out n = decoded_by (decoding e (length out) n) out n

@@ -26,7 +26,7 @@ pub fn edition_of(n: u32) -> Edition
     }
 }
 
-// What an address field of a contact means.
+// What an address field of a contact means. No Option: broadcast is an address, not the want of one.
 #[derive(Clone, Copy)]
 pub enum Address {
     // A callsign, by its number: 1 to 262,143,999,999,999. By the newer edition a hash address too: 262,144,000,000,000 to 268,697,599,999,999.
@@ -34,19 +34,11 @@ pub enum Address {
     Broadcast,
 }
 
-// A text's number, or a refusal and its place.
-#[derive(Clone, Copy)]
-pub enum Encoded {
-    Number(u64),
-    Refused(u8, usize),
-}
-
-// A number's text, by its length in the buffer; broadcast has none; or a refusal and its place.
-#[derive(Clone, Copy)]
+// What a number stands for: a text, by its length in the buffer, or broadcast, an address that has none: so no Option.
+#[derive(Clone, Copy, Debug, PartialEq, Eq)]
 pub enum Decoded {
     Text(usize),
     Broadcast,
-    Refused(u8, usize),
 }
 
 // Nine dots.

@@ -13,37 +13,11 @@ use borrow.Author.Tests.{le-ltb, ne_eqb}
 use Rattle.m17.specs.declared.Edition.{Edition}
 use Rattle.m17.specs.declared.Decoded.TheVariants as decoded
 use Rattle.m17.specs.Address.{hash_sign, first_hash, last_plain, char_of, text_up_to, text_for, is_callsign, decoding, decoded_by, decoded_into}
-use Rattle.m17.proofs.Laws.{text-zero}
 use Rattle.m17.proofs.OneToOne.{text-plain, text-hash}
-use Rattle.m17_decoder.specs.Begin.{Begun, padded, while_rest}
-
-text-cons : (k n : ℕ) → 0 < n → text_up_to (suc k) n ≡ char_of (n % 40) ∷ text_up_to k (n / 40)
-unfolding text_up_to
-text-cons k n p = rw (ne_eqb n 0 (omega arith))
-
-padded-zero : (k : ℕ) → padded k 0 ≡ replicate k 0
-unfolding padded
-padded-zero k = let z : k - 0 ≡ k = omega arith in rw (text-zero k, z)
-
-padded-cons : (k r : ℕ) → 0 < r → padded (suc k) r ≡ char_of (r % 40) ∷ padded k (r / 40)
-unfolding padded
-padded-cons k r p =
-    let m : suc k - suc (length (text_up_to k (r / 40))) ≡ k - length (text_up_to k (r / 40)) = omega arith in
-    rw (text-cons k r p, m)
-
-padded-step : (k r : ℕ) → padded (suc k) r ≡ while_rest r (char_of (r % 40)) ∷ padded k (r / 40)
-padded-step k r =
-    ⊎_elim
-    (λ (e : r ≡ 0). rw e (rw (padded-zero (suc k), padded-zero k)))
-    (λ (p : 0 < r). rw (ne_eqb r 0 (omega arith)) (padded-cons k r p))
-    (eq-zero-or-pos r)
-
-count-step : (k r : ℕ) → length (text_up_to (suc k) r) ≡ while_rest r 1 + length (text_up_to k (r / 40))
-count-step k r =
-    ⊎_elim
-    (λ (e : r ≡ 0). rw e (rw (text-zero (suc k), text-zero k)))
-    (λ p. rw (ne_eqb r 0 (omega arith), text-cons k r p) (omega arith))
-    (eq-zero-or-pos r)
+use Rattle.m17_groups.specs.Places.{padded, while_rest}
+use Rattle.m17_groups.proofs.Laws.{padded-step, count-step}
+use Rattle.m17_decoder.specs.Begin.{Begun}
+use Rattle.std.specs.Prelude.{Ok}
 
 -- no hash sign: all is still to write
 pub begun-plain : (n : ℕ) (out : List ℕ) → 9 ≤ length out → n ≤ last_plain → Begun n out out 0 0 n
@@ -75,13 +49,6 @@ begun-hash n out room p =
       text = rw (t, m, take-suc-set out 0 hash_sign h) (unfold padded in refl);
       behind = drop-set-lt 9 out 0 hash_sign j;
     }
-
--- behind the ninth byte a buffer is as lent, so that it may as well be the one lent
-pub begun-again : (n : ℕ) (lent out : List ℕ) (i len rest : ℕ) → Begun n lent out i len rest → Begun n out out i len rest
-begun-again n lent out i len rest b =
-    let r : 9 ≤ length lent = b.room in
-    let s : length out ≡ length lent = b.same in
-    record { room = omega arith; same = refl; few = b.few; inside = b.inside; count = b.count; text = b.text; behind = refl }
 
 pub begun-step : (n : ℕ) (lent out : List ℕ) (i len rest : ℕ) → Begun n lent out i len rest → i < 9
     → Begun n lent (set out i (while_rest rest (char_of (rest % 40)))) (i + 1) (len + while_rest rest 1) (rest / 40)
@@ -120,6 +87,6 @@ begun-done n lent out i len rest b done =
 
 pub decoding-written : (e : Edition) (lent out : List ℕ) (n len : ℕ) → 9 ≤ length lent → is_callsign e n ≡ true
     → (len ≡ length (text_for n)) × (out ≡ text_for n ++ (replicate (9 - length (text_for n)) 0 ++ drop 9 lent))
-    → (decoded.Text len ≡ decoding e (length lent) n) × (out ≡ decoded_into e lent n)
+    → (Ok (decoded.Text len) ≡ decoding e (length lent) n) × (out ≡ decoded_into e lent n)
 unfolding decoding decoded_into decoded_by
 decoding-written e lent out n len room t w = rw (w.0, w.1, le-ltb (length lent) 9 room, t) (refl, refl)

@@ -1,14 +1,7 @@
 -- How the code goes about it; no promise to a caller rests on these.
-use Rattle.std.specs.Prelude.{ℕ, ◌+◌, ◌-◌, ◌≤◌, ◌≡◌, cond, List, ◌++◌, length, take, drop, replicate, eqb}
+use Rattle.std.specs.Prelude.{ℕ, ◌+◌, ◌-◌, ◌≤◌, ◌≡◌, List, ◌++◌, length, take, drop, replicate}
 use Rattle.m17.specs.Address.{text_up_to, text_for}
-
--- a value where there is a rest to write, else 0
-abbrev pub while_rest : ℕ → ℕ → ℕ
-while_rest rest c = cond (eqb rest 0) 0 c
-
--- a number's text of at most k characters, zeros after it: k bytes
-unfoldable pub padded : ℕ → ℕ → List ℕ
-padded k n = text_up_to k n ++ replicate (k - length (text_up_to k n)) 0
+use Rattle.m17_groups.specs.Places.{padded}
 
 -- a buffer `out`, lent as `lent`, that holds the first i of the nine bytes of n's text, `len` of them characters; the text of `rest` is what is still to write
 pub record Begun (n : ℕ) (lent out : List ℕ) (i len rest : ℕ) : Type 0 where

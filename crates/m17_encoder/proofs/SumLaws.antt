@@ -10,29 +10,12 @@ use lib.Dec.{ltb}
 use borrow.Author.Tests.{ltb-true, ltb-false, eq-eqb, ne_eqb}
 use Rattle.m17.specs.declared.Edition.{Edition}
 use Rattle.m17.specs.declared.Edition.TheVariants.{Older, Newer}
-use Rattle.m17.specs.declared.Encoded.TheVariants as encoded
 use Rattle.m17.specs.Address.{digit_of, within, address_of, first_foreign, hash_sign, first_hash, hash_signs, foreign_place, number_of, encoding}
 use Rattle.m17.proofs.Laws.{foreign-le, foreign-here, foreign-at, native-step, address_step, address_below, encoding-foreign, encoding-space, encoding-number}
 use Rattle.m17_encoder.specs.Texts.{OneToNine}
-use Rattle.m17_encoder.specs.declared.Sum.{Sum}
-use Rattle.m17_encoder.specs.declared.Sum.TheVariants as sum
-
-abbrev pub summed : List ℕ → Sum
-summed s = cond (ltb (first_foreign s) (length s)) sum.Foreign (sum.Number (address_of s))
-
-pub sum-foreign : (s : List ℕ) (r : Sum) → r ≡ summed s → r ≡ sum.Foreign → first_foreign s < length s
-sum-foreign s r e f = go (ltb (first_foreign s) (length s)) refl (sym f ∙ e)
-  where
-    go : (b : Bool) → ltb (first_foreign s) (length s) ≡ b → sum.Foreign ≡ cond b sum.Foreign (sum.Number (address_of s)) → first_foreign s < length s
-    go true t e = ltb-true (first_foreign s) (length s) t
-    go false t e = let z : ◌≡◌ {A = ℕ} 0 1 = cc in absurd (omega arith)
-
-pub sum_number : (s : List ℕ) (r : Sum) (n : ℕ) → r ≡ summed s → r ≡ sum.Number n → (length s ≤ first_foreign s) × (n ≡ address_of s)
-sum_number s r n e f = go (ltb (first_foreign s) (length s)) refl (sym f ∙ e)
-  where
-    go : (b : Bool) → ltb (first_foreign s) (length s) ≡ b → sum.Number n ≡ cond b sum.Foreign (sum.Number (address_of s)) → (length s ≤ first_foreign s) × (n ≡ address_of s)
-    go true t e = let z : ◌≡◌ {A = ℕ} 0 1 = cc in absurd (omega arith)
-    go false t e = (ltb-false (first_foreign s) (length s) t, cc)
+use Rattle.std.specs.Prelude.{Ok}
+use Rattle.format.specs.declared.refusals.Reason.TheVariants as reason
+use Rattle.fields.specs.Rule.{Refused}
 
 -- ---- the hash sign that begins a text
 
@@ -65,7 +48,7 @@ behind-length k s = rw (behind-drop k s) (length-drop k s)
 -- ---- the answers to a text of 1 to 9 characters, k of them its hash sign
 
 module _ (e : Edition) (s : List ℕ) (g : OneToNine s) (k : ℕ) (h : k ≡ hash_signs e s) (l : k ≤ length s) where
-  pub answer-foreign : (p q : ℕ) → p ≡ k + q → q ≡ first_foreign (drop k s) → first_foreign (drop k s) < length (drop k s) → encoded.Refused 21 p ≡ encoding e s
+  pub answer-foreign : (p q : ℕ) → p ≡ k + q → q ≡ first_foreign (drop k s) → first_foreign (drop k s) < length (drop k s) → Refused reason.CallsignForeign p ≡ encoding e s
   unfolding foreign_place
   answer-foreign p q j i f =
       let a : p ≡ foreign_place e s = rw (j, i, h) in
@@ -77,20 +60,20 @@ module _ (e : Edition) (s : List ℕ) (g : OneToNine s) (k : ℕ) (h : k ≡ has
     unfolding foreign_place
     no-foreign = rw (← h) (omega (arith, f, length-drop k s))
 
-    pub answer-space : get_or s (length s - 1) 0 ≡ 32 → encoded.Refused 22 0 ≡ encoding e s
+    pub answer-space : get_or s (length s - 1) 0 ≡ 32 → Refused reason.CallsignSpace 0 ≡ encoding e s
     answer-space i = sym (encoding-space e s g.0 g.1 no-foreign i)
 
-    pub answer-number : (n : ℕ) → n ≡ k * first_hash + address_of (drop k s) → (get_or s (length s - 1) 0 ≡ 32 → ⊥) → encoded.Number n ≡ encoding e s
+    pub answer-number : (n : ℕ) → n ≡ k * first_hash + address_of (drop k s) → (get_or s (length s - 1) 0 ≡ 32 → ⊥) → Ok n ≡ encoding e s
     unfolding number_of
     answer-number n i j =
         let m : n ≡ number_of e s = rw (i, h) in
-        ap encoded.Number m ∙ sym (encoding-number e s g.0 g.1 no-foreign j)
+        ap Ok m ∙ sym (encoding-number e s g.0 g.1 no-foreign j)
 
     pub sum_low : address_of (drop k s) < 40 ^ 9
     sum_low = address_below (drop k s) 9 (simp length-drop (omega (arith, g.1))) (omega (arith, f, foreign-le (drop k s)))
 
 -- by the older the sign is foreign
-pub answer-older : (s : List ℕ) → OneToNine s → get_or s 0 0 ≡ hash_sign → encoded.Refused 21 0 ≡ encoding Older s
+pub answer-older : (s : List ℕ) → OneToNine s → get_or s 0 0 ≡ hash_sign → Refused reason.CallsignForeign 0 ≡ encoding Older s
 answer-older s g h =
     let d : digit_of (get_or s 0 0) ≡ 40 = rw h sign-digit in
     let z : first_foreign (drop 0 s) ≡ 0 = foreign-here s 0 g.0 d in
@@ -98,7 +81,7 @@ answer-older s g h =
 
 -- by the newer, alone, it is 40^9
 pub answer-alone : (e : Edition) (s : List ℕ) → OneToNine s → get_or s 0 0 ≡ hash_sign → 1 ≡ hash_signs e s → length (behind 1 s) ≡ 0
-    → encoded.Number first_hash ≡ encoding e s
+    → Ok first_hash ≡ encoding e s
 answer-alone e s g c h z =
     let l : length s ≡ 1 = omega (arith, z, behind-length 1 s, g.0) in
     let d : drop 1 s ≡ [] = drop_of_length-le s {i = 1} (omega arith) in
@@ -106,14 +89,6 @@ answer-alone e s g c h z =
     let n : address_of (drop 1 s) ≡ 0 = rw d (unfold address_of in refl) in
     let last : get_or s (length s - 1) 0 ≡ 35 = rw k c in
     answer-number e s g 1 h (omega arith) (rw d (unfold first_foreign in omega arith)) first_hash (omega (arith, n)) (λ x. omega (arith, last, x))
-
--- what the sum of the characters behind the sign says
-pub tail-foreign : (s : List ℕ) (r : Sum) → r ≡ summed (behind 1 s) → r ≡ sum.Foreign → first_foreign (drop 1 s) < length (drop 1 s)
-tail-foreign s r e f = sum-foreign (drop 1 s) r (e ∙ ap summed (behind-drop 1 s)) f
-
-pub tail-number : (s : List ℕ) (r : Sum) (n : ℕ) → r ≡ summed (behind 1 s) → r ≡ sum.Number n
-    → (length (drop 1 s) ≤ first_foreign (drop 1 s)) × (n ≡ address_of (drop 1 s))
-tail-number s r n e f = sum_number (drop 1 s) r n (e ∙ ap summed (behind-drop 1 s)) f
 
 -- ---- an iteration at a place that may be past the text
 

@@ -35,14 +35,14 @@ padded-cons k r p =
     let m : suc k - suc (length (text_up_to k (r / 40))) ≡ k - length (text_up_to k (r / 40)) = omega arith in
     rw (text-cons k r p, m)
 
-padded-step : (k r : ℕ) → padded (suc k) r ≡ while_rest r (char_of (r % 40)) ∷ padded k (r / 40)
+pub padded-step : (k r : ℕ) → padded (suc k) r ≡ while_rest r (char_of (r % 40)) ∷ padded k (r / 40)
 padded-step k r =
     ⊎_elim
     (λ (e : r ≡ 0). rw e (rw (padded-zero (suc k), padded-zero k) (unfold zeros in refl)))
     (λ (p : 0 < r). rw (ne_eqb r 0 (omega arith)) (padded-cons k r p))
     (eq-zero-or-pos r)
 
-count-step : (k r : ℕ) → length (text_up_to (suc k) r) ≡ while_rest r 1 + length (text_up_to k (r / 40))
+pub count-step : (k r : ℕ) → length (text_up_to (suc k) r) ≡ while_rest r 1 + length (text_up_to k (r / 40))
 count-step k r =
     ⊎_elim
     (λ (e : r ≡ 0). rw e (rw (text-zero (suc k), text-zero k)))

@@ -1,4 +1,4 @@
-// The characters of a group, three digits of an address number, written into a buffer.
+// The characters of digits, and of a group, three digits of an address number, written into a buffer.
 #![tactic(auto)]
 
 pub mod table; // table.rt: the characters of digits
@@ -12,7 +12,7 @@ ghost use Rattle.m17_groups.specs.Places.{full, padded, while_rest};
 use m17_digits::digits_of;
 
 // The character of a digit below 40, by the table of characters.
-fn character(characters: &[u8; 40], d: u8) -> u8
+pub fn character(characters: &[u8; 40], d: u8) -> u8
     requires { (d < 40) × Table char_of 0 40 characters.now }
     ensures { result ≡ char_of d }
 {
@@ -20,7 +20,7 @@ fn character(characters: &[u8; 40], d: u8) -> u8
 }
 
 // A value where there is a rest to write, else 0.
-fn while_rest(rest: u32, value: u8) -> u8
+pub fn while_rest(rest: u64, value: u8) -> u8
     ensures { result ≡ while_rest rest value }
 {
     if rest == 0 { 0 } else { value }
@@ -44,7 +44,7 @@ pub fn write_last(characters: &[u8; 40], out: &mut [u8], k: usize, group: u32) -
 {
     let digits = digits_of(group);
     out[k] = character(characters, digits.first);
-    out[k + 1] = while_rest(group / 40, character(characters, digits.second));
-    out[k + 2] = while_rest(group / 1600, character(characters, digits.third));
-    1 + while_rest(group / 40, 1) as usize + while_rest(group / 1600, 1) as usize
+    out[k + 1] = while_rest((group / 40) as u64, character(characters, digits.second));
+    out[k + 2] = while_rest((group / 1600) as u64, character(characters, digits.third));
+    1 + while_rest((group / 40) as u64, 1) as usize + while_rest((group / 1600) as u64, 1) as usize
 }

@@ -6,8 +6,6 @@ use native.Mathlib.Omega.{arith}
 use lib.ListN.{length, take, get_or, set}
 use borrow.Author.Tests.{ne_eqb}
 use Rattle.fields.specs.Bytes.{part, over, AllBytes}
-use Rattle.fields.specs.declared.rule.Validity.{Validity}
-use Rattle.fields.specs.declared.rule.Validity.TheVariants.{Valid, Refused}
 use Rattle.fields.proofs.Laws.{get_d_part, length_part, over-byte}
 use Rattle.m17.specs.declared.Edition.{Edition}
 use Rattle.renumber.proofs.Laws.{over-inner, over-self}
@@ -15,10 +13,14 @@ use Rattle.layout.specs.Places.{contact_count, channel_count, contact_place, cha
 use Rattle.edits.proofs.AcceptedCodeplug.{has-layout}
 use Rattle.legacy.specs.Reading.{legacy_file_rule}
 use Rattle.legacy.specs.Migration.{migrated_byte, migrated_at, migrated_contact, migrated_channel, with_records_at, migrated, migrated_by}
-use Rattle.legacy.proofs.RunLaws.{take-changed}
+use Rattle.legacy.proofs.RunLaws.{take-changed, records-more, records-none}
 use Rattle.legacy.proofs.ContactLaws.{contact-keeps}
+use Rattle.legacy.proofs.ChannelLaws.{channel-keeps}
 use Rattle.legacy.proofs.LayoutLaws.{banks_place-same, channel_place-same, channel_count-same}
 use Rattle.legacy.proofs.FileLaws.{migrated-front, migrated-length, migrated-bytes, files-agree}
+use Rattle.std.specs.Prelude.{Err}
+use Rattle.fields.specs.Rule.{Valid}
+use Rattle.format.specs.declared.refusals.Refusal.{Refusal}
 
 -- ---- one record
 
@@ -33,20 +35,20 @@ byte_inside d p w k g h =
     in
     over-byte d (p + k) x (omega arith) ∙ rw e (sym (over-inner d p w k 1 (x ∷ []) refl (omega arith) h))
 
-pub contact-dmr : (d : List ℕ) (p : ℕ) → get_or d (p + 32) 0 ≡ 1 → p + 39 ≤ length d
+pub contact_dmr : (d : List ℕ) (p : ℕ) → get_or d (p + 32) 0 ≡ 1 → p + 39 ≤ length d
     → set d (p + 37) (migrated_byte (get_or d (p + 37) 0)) ≡ over d p (migrated_contact (part d p 39))
 unfolding migrated_contact
-contact-dmr d p m h = rw (get_d_part d p 39 32 (omega arith), m) (byte_inside d p 39 37 (omega arith) h)
+contact_dmr d p m h = rw (get_d_part d p 39 32 (omega arith), m) (byte_inside d p 39 37 (omega arith) h)
 
-pub contact-other : (d : List ℕ) (p : ℕ) → (get_or d (p + 32) 0 ≡ 1 → ⊥) → p + 39 ≤ length d
+pub contact_other : (d : List ℕ) (p : ℕ) → (get_or d (p + 32) 0 ≡ 1 → ⊥) → p + 39 ≤ length d
     → d ≡ over d p (migrated_contact (part d p 39))
 unfolding migrated_contact
-contact-other d p m h = rw (get_d_part d p 39 32 (omega arith), ne_eqb (get_or d (p + 32) 0) 1 m) (sym (over-self d p 39 h))
+contact_other d p m h = rw (get_d_part d p 39 32 (omega arith), ne_eqb (get_or d (p + 32) 0) 1 m) (sym (over-self d p 39 h))
 
-pub channel-moved : (d : List ℕ) (p : ℕ) → p + 90 ≤ length d
+pub channel_moved : (d : List ℕ) (p : ℕ) → p + 90 ≤ length d
     → set d (p + 1) (migrated_byte (get_or d (p + 1) 0)) ≡ over d p (migrated_channel (part d p 90))
 unfolding migrated_channel
-channel-moved d p h = byte_inside d p 90 1 (omega arith) h
+channel_moved d p h = byte_inside d p 90 1 (omega arith) h
 
 -- ---- a valid file holds all its records
 
@@ -69,11 +71,27 @@ migrated-in-two f d e start n c k x p q y =
     in
     y ∙ rw (p, q, ← channel_place-same d f g 0, ← channel_count-same d f g, x, k)
 
+-- ---- the first i records of a file, one more
+
+pub contacts_none : (f : List ℕ) → f ≡ with_records_at 88 migrated_contact 39 0 f
+contacts_none f = records-none migrated_contact 39 88 f
+
+pub contacts_more : (f d : List ℕ) (i : ℕ) → 88 + i * 39 + 39 ≤ length f → d ≡ with_records_at 88 migrated_contact 39 i f
+    → over d (88 + i * 39) (migrated_contact (part d (88 + i * 39) 39)) ≡ with_records_at 88 migrated_contact 39 (i + 1) f
+contacts_more f d i h e = records-more migrated_contact contact-keeps 39 88 i f d _ h e refl
+
+pub channels_none : (start : ℕ) (f : List ℕ) → f ≡ with_records_at start migrated_channel 90 0 f
+channels_none start f = records-none migrated_channel 90 start f
+
+pub channels_more : (start : ℕ) (f d : List ℕ) (i : ℕ) → start + i * 90 + 90 ≤ length f → d ≡ with_records_at start migrated_channel 90 i f
+    → over d (start + i * 90) (migrated_channel (part d (start + i * 90) 90)) ≡ with_records_at start migrated_channel 90 (i + 1) f
+channels_more start f d i h e = records-more migrated_channel channel-keeps 90 start i f d _ h e refl
+
 -- ---- what the call leaves
 
-pub left-as-is : (ed : Edition) (f : List ℕ) (v : Validity) (n p : ℕ) → v ≡ legacy_file_rule ed f → v ≡ Refused n p → f ≡ migrated_by (legacy_file_rule ed f) f
+pub left_as_is : (ed : Edition) (f : List ℕ) (e : Refusal) → legacy_file_rule ed f ≡ Err e → migrated_by (legacy_file_rule ed f) f ≡ f
 unfolding migrated_by
-left-as-is ed f v n p e h = rw (← e, h)
+left_as_is ed f e h = rw h
 
 pub left-migrated : (ed : Edition) (f m : List ℕ) → legacy_file_rule ed f ≡ Valid → m ≡ migrated f → m ≡ migrated_by (legacy_file_rule ed f) f
 unfolding migrated_by

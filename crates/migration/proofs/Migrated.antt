@@ -9,9 +9,7 @@ use lib.Seq.{get_or-take, get_or-drop}
 use lib.Dec.{ltb}
 use borrow.Author.Tests.{lt-ltb, ltb-true, ltb-false}
 use Rattle.fields.specs.Bytes.{part, AllBytes}
-use Rattle.fields.specs.Rule.{◌then◌, unless}
-use Rattle.fields.specs.declared.rule.Validity.{Validity}
-use Rattle.fields.specs.declared.rule.Validity.TheVariants.{Valid, Refused}
+use Rattle.fields.specs.Rule.{Validity, Valid, ◌then◌, unless}
 use Rattle.fields.proofs.Laws.{get_d_part, bytes-part}
 use Rattle.m17.specs.declared.Edition.{Edition}
 use Rattle.m17.specs.declared.Edition.TheVariants.{Older, Newer}
@@ -33,6 +31,7 @@ use Rattle.legacy.proofs.FileLaws.{migrated-front, migrated-length, migrated-con
 use Rattle.legacy.proofs.RefusalLaws.{refused-by-seven}
 use Rattle.legacy_validation.specs.Validation.{legacy_validation}
 use Rattle.migration.specs.Promise.{ReadingsAgree, LegacyOlderInNewer, ReadsTheSame, FieldsStay, SettingsPlace, TraitsPlace, OthersStay, NoTwoTheSame, BothStay, OthersBySeven, Demand3Migrated}
+use Rattle.std.specs.Prelude.{Ok, Err}
 
 -- ---- the two readings agree
 
@@ -41,8 +40,8 @@ unfolding validation legacy_validation validated_by
 readings-agree ed f b = rw (files-agree f ed b) (by (legacy_file_rule ed f))
   where
     by : (v : Validity) → validated_by v (migrated f) ≡ validated_by v f
-    by Valid = rw (counts_same (migrated f) f (migrated-front f))
-    by (Refused n p) = refl
+    by (Ok u) = rw (counts_same (migrated f) f (migrated-front f))
+    by (Err e) = refl
 
 pub legacy-older-in-newer : LegacyOlderInNewer
 unfolding legacy_validation
@@ -64,7 +63,7 @@ module _ (ed : Edition) (f : List ℕ) (b : AllBytes f) (h : legacy_file_rule ed
   unfolding place_rule ◌then◌ unless
   place-valid n count l = rw (accepted, lt-ltb n count l)
 
-  read-header : header_read ed m ≡ record { validity = Valid; header = header_of f }
+  read-header : header_read ed m ≡ Ok (header_of f)
   unfolding header_read header_answer header_of
   read-header =
       rw (

@@ -1,8 +1,7 @@
 -- What document 02, [5] asks of migrating ("carries an old file over"), as types; proofs/Migrated.antt proves them. They speak of `migrated`, which the call makes of an
 -- accepted file, and leaves a refused one: its contract, by `migrated_by` (src/lib.rt). Addresses are read by one edition throughout.
-use Rattle.std.specs.Prelude.{ℕ, ◌+◌, ◌*◌, ◌<◌, ◌≡◌, List, length, get_or}
+use Rattle.std.specs.Prelude.{Ok, ℕ, ◌+◌, ◌*◌, ◌<◌, ◌≡◌, List, length, get_or}
 use Rattle.fields.specs.Bytes.{part, AllBytes}
-use Rattle.fields.specs.declared.rule.Validity.TheVariants.{Valid, Refused}
 use Rattle.m17.specs.declared.Edition.{Edition}
 use Rattle.m17.specs.declared.Edition.TheVariants.{Older, Newer}
 use Rattle.layout.specs.Places.{contact_count, channel_count, bank_count, counts_of, contact_place, channel_place}
@@ -17,6 +16,9 @@ use Rattle.edits.specs.Demand.{OfBytes}
 use Rattle.legacy.specs.Reading.{legacy_contact_of, legacy_channel_of, legacy_file_rule}
 use Rattle.legacy.specs.Migration.{migrated, migrated_by}
 use Rattle.legacy_validation.specs.Validation.{legacy_validation}
+use Rattle.fields.specs.Rule.{Valid, Refused}
+use Rattle.format.specs.declared.refusals.Reason.{Reason}
+use Rattle.format.specs.declared.refusals.Reason.TheVariants as reason
 
 -- ---- the two readings agree: validation of the migrated bytes answers what the legacy reading answered, counts and refusals, whatever the bytes
 
@@ -35,10 +37,10 @@ LegacyOlderInNewer =
 pub record ReadsTheSame (e : Edition) (f m : List ℕ) : Type 0 where
   pub accepted : file_rule e m ≡ Valid
   pub counts : counts_of m ≡ counts_of f
-  pub header : header_read e m ≡ record { validity = Valid; header = header_of f }
-  pub contact : (n : ℕ) → n < contact_count f → contact_read e m n ≡ record { validity = Valid; contact = legacy_contact_of (part f (contact_place n) 39) }
-  pub channel : (n : ℕ) → n < channel_count f → channel_read e m n ≡ record { validity = Valid; channel = legacy_channel_of (part f (channel_place f n) 90) }
-  pub bank : (n : ℕ) → n < bank_count f → bank_read e m n ≡ record { validity = Valid; bank = bank_of (part f (bank_place f n) 34) }
+  pub header : header_read e m ≡ Ok (header_of f)
+  pub contact : (n : ℕ) → n < contact_count f → contact_read e m n ≡ Ok (legacy_contact_of (part f (contact_place n) 39))
+  pub channel : (n : ℕ) → n < channel_count f → channel_read e m n ≡ Ok (legacy_channel_of (part f (channel_place f n) 90))
+  pub bank : (n : ℕ) → n < bank_count f → bank_read e m n ≡ Ok (bank_of (part f (bank_place f n) 34))
   pub entry : (n i : ℕ) → n < bank_count f
       → entry_read e m n i ≡ entry_step (part f (bank_place f n + 34) (entry_count f (bank_place f n) * 2)) i
 
@@ -73,7 +75,7 @@ abbrev pub BothStay : Type 0
 BothStay = (e : Edition) (f : List ℕ) → AllBytes f → file_rule e f ≡ Valid → legacy_file_rule e f ≡ Valid → migrated f ≡ f
 
 abbrev pub OthersBySeven : Type 0
-OthersBySeven = (e : Edition) (f : List ℕ) (n p : ℕ) → file_rule e f ≡ Valid → legacy_file_rule e f ≡ Refused n p → n ≡ 7
+OthersBySeven = (e : Edition) (f : List ℕ) (n : Reason) (p : ℕ) → file_rule e f ≡ Valid → legacy_file_rule e f ≡ Refused n p → n ≡ reason.Value
 
 -- ---- demand 3 opens with the migrated file, its history empty
 

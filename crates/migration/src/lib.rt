@@ -7,15 +7,16 @@ ghost use Rattle.legacy.specs.Reading.{legacy_file_rule};
 ghost use Rattle.legacy.specs.Migration.{migrated_contact, migrated_channel, with_records_at, migrated_by};
 ghost use Rattle.legacy_validation.specs.Validation.{legacy_validation};
 
-use fields::rule::Validity;
-use format::sizes::{CHANNEL_SIZE, CONTACT_MODE_AT, CONTACT_SIZE, HEADER_SIZE};
-use layout::places::{channel_count, channel_place, contact_count, counts_of};
+use format::refusals::Refusal;
+use format::sizes::{CHANNEL_SIZE, CONTACT_MODE_AT};
+use layout::Counts;
+use layout::places::{channel_count, channel_place, contact_count, contact_place, counts_of};
 use legacy::migrated_byte;
 use legacy_validation::validity_of;
 use m17::Edition;
-use validation::Validated;
 
 // The settings of the contact at p. Byte 37 of an M17 contact belongs to its address.
+#[tactic(auto, using(crate::proofs::Laws::contact_dmr, crate::proofs::Laws::contact_other))]
 fn migrate_contact(d: &mut [u8], p: usize)
     requires { p + 39 ≤ length d.old }
     ensures { d.new ≡ over d.old p (migrated_contact (part d.old p 39)) }
@@ -26,6 +27,7 @@ fn migrate_contact(d: &mut [u8], p: usize)
 }
 
 // The traits of the channel at p.
+#[tactic(auto, using(crate::proofs::Laws::channel_moved))]
 fn migrate_channel(d: &mut [u8], p: usize)
     requires { p + 90 ≤ length d.old }
     ensures { d.new ≡ over d.old p (migrated_channel (part d.old p 90)) }
@@ -34,45 +36,38 @@ fn migrate_channel(d: &mut [u8], p: usize)
 }
 
 // The first n contacts.
+#[tactic(auto, unfolding(layout::specs::Places::contact_place), using(crate::proofs::Laws::contacts_none, crate::proofs::Laws::contacts_more))]
 fn migrate_contacts(d: &mut [u8], n: usize)
     requires { (88 + n * 39 ≤ length d.old) × (n < 65536) }
     ensures { d.new ≡ with_records_at 88 migrated_contact 39 n d.old }
 {
-    let mut i = 0;
-    let mut p = HEADER_SIZE;
-    while i < n {
-        migrate_contact(d, p);
-        i += 1;
-        p += CONTACT_SIZE;
+    for i in 0..n {
+        migrate_contact(d, contact_place(i));
     }
 }
 
 // The n channels from `start` on.
+#[tactic(auto, using(crate::proofs::Laws::channels_none, crate::proofs::Laws::channels_more))]
 fn migrate_channels(d: &mut [u8], start: usize, n: usize)
     requires { (start + n * 90 ≤ length d.old) × (n < 65536) }
     ensures { d.new ≡ with_records_at start migrated_channel 90 n d.old }
 {
-    let mut i = 0;
-    let mut p = start;
-    while i < n {
-        migrate_channel(d, p);
-        i += 1;
-        p += CHANNEL_SIZE;
+    for i in 0..n {
+        migrate_channel(d, start + i * CHANNEL_SIZE);
     }
 }
 
 // Answers as validation by the legacy reading does. An accepted file is migrated, a refused one stays as it is.
-pub fn migrate(f: &mut [u8], edition: Edition) -> Validated
+#[tactic(auto, unfolding(legacy_validation::specs::Validation::legacy_validation, validation::specs::Validation::validated_by, legacy::specs::Migration::migrated_by))]
+pub fn migrate(f: &mut [u8], edition: Edition) -> Result<Counts, Refusal>
     ensures { (result ≡ legacy_validation edition f.old) × (f.new ≡ migrated_by (legacy_file_rule edition f.old) f.old) }
 {
-    if let Validity::Refused(n, p) = validity_of(f, edition) {
-        return Validated::Refused(n, p);
-    }
+    validity_of(f, edition)?;
     let counts = counts_of(f);
     let contacts = contact_count(f);
     let channels = channel_count(f);
     let start = channel_place(f, 0);
     migrate_contacts(f, contacts);
     migrate_channels(f, start, channels);
-    Validated::Accepted(counts)
+    Ok(counts)
 }

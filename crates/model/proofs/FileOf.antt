@@ -6,7 +6,6 @@ use native.Mathlib.Omega.{arith}
 use lib.ListN.{length, drop, take-append-drop, drop_of_length-le}
 use lib.Seq.{drop-drop}
 use Rattle.fields.specs.Bytes.{part, num, little_bytes}
-use Rattle.fields.specs.declared.rule.Validity.TheVariants.{Valid}
 use Rattle.fields.proofs.Laws.{length_part, part-add, AllBytes, little_bytes-num}
 use Rattle.layout.specs.Places.{contact_count, channel_count, bank_count, contact_place, channel_place, offset_place, banks_place}
 use Rattle.layout.specs.Banks.{entry_count, next_bank, offsets_rule, bank_place}
@@ -14,6 +13,7 @@ use Rattle.layout.proofs.Laws.{bank-leads, bank-inside, bank-first, bank-next, b
 use Rattle.model.specs.HasLayout.{HasLayout}
 use Rattle.model.specs.Codeplug.{Bank, joined, bank_bytes, offsets_from, count_bytes, codeplug_bytes, indexes_at, banks_at, codeplug_of}
 use Rattle.model.proofs.Blocks.{joined-blocks, length-blocks, length-indexes, pairs-indexes, length-bank_bytes, length-banks_at}
+use Rattle.fields.specs.Rule.{Valid}
 
 -- ---- parts that touch
 

@@ -11,9 +11,7 @@ use lib.Dec.{leb, ltb, eqb}
 use borrow.Author.Tests.{eq-eqb, le-leb, lt-ltb, ltb-true}
 use Rattle.fields.specs.Bytes.{part, num, little_bytes}
 use Rattle.text.specs.Text.{text_ok}
-use Rattle.fields.specs.Rule.{◌then◌, unless, field_of, field, each}
-use Rattle.fields.specs.declared.rule.Validity.{Validity}
-use Rattle.fields.specs.declared.rule.Validity.TheVariants.{Valid}
+use Rattle.fields.specs.Rule.{◌then◌, unless, field_of, field, each, Validity, Valid}
 use Rattle.fields.proofs.Laws.{length_part, part_left, length-little_bytes, then-valid, then-assoc, both-valid, then-of-valid, unless-valid, unless-passes}
 use Rattle.fields.proofs.Laws.{field-inside, field-passes, each-passes}
 use Rattle.layout.specs.Places.{contact_count, channel_count, bank_count, contact_place, channel_place, offset_place, banks_place}
@@ -26,6 +24,8 @@ use Rattle.model.proofs.FileOf.{contacts-start}
 use Rattle.model.proofs.Shape.{BankShaped, Shaped, from_entries, bank-name, entry-count, bank-ends}
 use Rattle.model.proofs.Shape.{channels_start, table_start, banks_start, from-contacts, from-channels, from-table, from-banks, length-codeplug, bytes-codeplug}
 use Rattle.model.proofs.Shape.{contact-count, channel-count, bank-count, channel-place, offset-place, banks-place}
+use Rattle.format.specs.declared.refusals.Reason.TheVariants as reason
+use Rattle.format.specs.declared.refusals.Reason.{Reason}
 
 -- ---- runs over a list of records
 
@@ -100,7 +100,7 @@ each_of-same a b w p (s ∷ l) h =
 -- each entry is below the count of channels, n
 unfoldable pub entries_of : ℕ → ℕ → List ℕ → Validity
 entries_of n p [] = Valid
-entries_of n p (x ∷ l) = unless (ltb x n) 11 p then entries_of n (p + 2) l
+entries_of n p (x ∷ l) = unless (ltb x n) reason.BankEntry p then entries_of n (p + 2) l
 
 pub entries_of-append : (n p : ℕ) (a b : List ℕ) → entries_of n p (a ++ b) ≡ entries_of n p a then entries_of n (p + length a * 2) b
 unfolding entries_of ◌then◌
@@ -108,20 +108,20 @@ entries_of-append n p [] b = rw add-zero
 entries_of-append n p (x ∷ a) b =
     let e : p + suc (length a) * 2 ≡ p + 2 + length a * 2 = omega arith in
     rw (e, entries_of-append n (p + 2) a b)
-    (sym (then-assoc (unless (ltb x n) 11 p) (entries_of n (p + 2) a) (entries_of n (p + 2 + length a * 2) b)))
+    (sym (then-assoc (unless (ltb x n) reason.BankEntry p) (entries_of n (p + 2) a) (entries_of n (p + 2 + length a * 2) b)))
 
 pub entries_of-valid : (n p : ℕ) (l : List ℕ) → entries_of n p l ≡ Valid → Every (λ x. x < n) l
 unfolding entries_of
 entries_of-valid n p [] h = tt
 entries_of-valid n p (x ∷ l) h =
-    let a = then-valid (unless (ltb x n) 11 p) (entries_of n (p + 2) l) h in
-    (ltb-true x n (unless-valid (ltb x n) 11 p a.0), entries_of-valid n (p + 2) l a.1)
+    let a = then-valid (unless (ltb x n) reason.BankEntry p) (entries_of n (p + 2) l) h in
+    (ltb-true x n (unless-valid (ltb x n) reason.BankEntry p a.0), entries_of-valid n (p + 2) l a.1)
 
 pub entries_of-passes : (n p : ℕ) (l : List ℕ) → Every (λ x. x < n) l → entries_of n p l ≡ Valid
 unfolding entries_of
 entries_of-passes n p [] h = refl
 entries_of-passes n p (x ∷ l) h =
-    both-valid (unless (ltb x n) 11 p) (entries_of n (p + 2) l) (unless-passes (ltb x n) 11 p (lt-ltb x n h.0))
+    both-valid (unless (ltb x n) reason.BankEntry p) (entries_of n (p + 2) l) (unless-passes (ltb x n) reason.BankEntry p (lt-ltb x n h.0))
     (entries_of-passes n (p + 2) l h.1)
 
 -- what stands at p lies inside
@@ -129,14 +129,14 @@ inside : (f : List ℕ) (p : ℕ) (a s : List ℕ) → 0 < length a → drop p f
 inside f p a s h e = omega (arith, simp (length-drop, length-append) at (ap length e))
 
 entry-is : (f : List ℕ) (p x : ℕ) (s : List ℕ) → drop p f ≡ little_bytes 2 x ++ s → x < 65536
-    → entry_at f p ≡ unless (ltb x (channel_count f)) 11 p
+    → entry_at f p ≡ unless (ltb x (channel_count f)) reason.BankEntry p
 unfolding entry_at
 entry-is f p x s e h =
     let a : p + 2 ≤ length f =
     rw (length-little_bytes 2 x) at (inside f p (little_bytes 2 x) s (rw (length-little_bytes 2 x) (omega arith)) e)
     in
     rw (stands-num f p 2 x s e h)
-    (field-inside (length (part f p 2)) p 0 2 11 (ltb x (channel_count f)) (rw (length_part f p 2 a) (omega arith)) ∙ rw add-zero)
+    (field-inside (length (part f p 2)) p 0 2 reason.BankEntry (ltb x (channel_count f)) (rw (length_part f p 2 a) (omega arith)) ∙ rw add-zero)
 
 entries-are : (f : List ℕ) (l : List ℕ) (p : ℕ) (s : List ℕ) → drop p f ≡ pairs l ++ s → Every Small l
     → each (entry_at f) (length l) 2 p ≡ entries_of (channel_count f) p l
@@ -153,7 +153,7 @@ entries-are f (x ∷ l) p s e h =
 
 -- the bank at p: its name is a text, and its entries
 unfoldable pub bank_ok : ℕ → ℕ → Bank → Validity
-bank_ok n p b = unless (text_ok b.name) 5 p then entries_of n (p + 34) b.entries
+bank_ok n p b = unless (text_ok b.name) reason.Text p then entries_of n (p + 34) b.entries
 
 unfoldable pub banks_ok : ℕ → ℕ → List Bank → Validity
 banks_ok n p [] = Valid
@@ -167,16 +167,16 @@ pub record BankValid (n : ℕ) (b : Bank) : Type 0 where
 pub bank_ok-valid : (n p : ℕ) (b : Bank) → bank_ok n p b ≡ Valid → BankValid n b
 unfolding bank_ok
 bank_ok-valid n p b h =
-    let a = then-valid (unless (text_ok b.name) 5 p) (entries_of n (p + 34) b.entries) h in
+    let a = then-valid (unless (text_ok b.name) reason.Text p) (entries_of n (p + 34) b.entries) h in
     record {
-      text = unless-valid (text_ok b.name) 5 p a.0;
+      text = unless-valid (text_ok b.name) reason.Text p a.0;
       below = entries_of-valid n (p + 34) b.entries a.1;
     }
 
 pub bank_ok-passes : (n p : ℕ) (b : Bank) → BankValid n b → bank_ok n p b ≡ Valid
 unfolding bank_ok
 bank_ok-passes n p b h =
-    both-valid (unless (text_ok b.name) 5 p) (entries_of n (p + 34) b.entries) (unless-passes (text_ok b.name) 5 p h.text)
+    both-valid (unless (text_ok b.name) reason.Text p) (entries_of n (p + 34) b.entries) (unless-passes (text_ok b.name) reason.Text p h.text)
     (entries_of-passes n (p + 34) b.entries h.below)
 
 pub banks_ok-append : (n p : ℕ) (a b : List Bank) → banks_ok n p (a ++ b) ≡ banks_ok n p a then banks_ok n (p + length (banks_bytes a)) b
@@ -211,26 +211,26 @@ bank-is f t p at b s r e h o g q =
     let l : length (bank_bytes b) ≡ 34 + length b.entries * 2 = length-bank_bytes b h.wide in
     let a : p + length (bank_bytes b) ≤ length f = inside f p (bank_bytes b) s (omega arith) e in
     let w : length (part f p 34) ≡ 34 = length_part f p 34 (omega arith) in
-    let offset : unless (eqb (banks_place f + num f t 4) p) 10 t ≡ Valid =
-    unless-passes (eqb (banks_place f + num f t 4) p) 10 t
+    let offset : unless (eqb (banks_place f + num f t 4) p) reason.BankOffset t ≡ Valid =
+    unless-passes (eqb (banks_place f + num f t 4) p) reason.BankOffset t
     (eq-eqb (banks_place f + num f t 4) p (rw (stands-num f t 4 at r o g) q))
     in
-    let name : field (part f p 34) p 0 32 5 (text_ok (part f p 32)) ≡ unless (text_ok b.name) 5 p =
+    let name : field (part f p 34) p 0 32 reason.Text (text_ok (part f p 32)) ≡ unless (text_ok b.name) reason.Text p =
     rw (bank-name f p b s e h)
-    (field-inside (length (part f p 34)) p 0 32 5 (text_ok b.name) (omega arith) ∙ rw add-zero)
+    (field-inside (length (part f p 34)) p 0 32 reason.Text (text_ok b.name) (omega arith) ∙ rw add-zero)
     in
-    let count : field (part f p 34) p 32 2 7 true ≡ Valid = field-passes (length (part f p 34)) p 32 2 7 true (omega arith) refl in
+    let count : field (part f p 34) p 32 2 reason.Value true ≡ Valid = field-passes (length (part f p 34)) p 32 2 reason.Value true (omega arith) refl in
     let entries : each (entry_at f) (entry_count f p) 2 (p + 34) ≡ entries_of (channel_count f) (p + 34) b.entries =
     rw (entry-count f p b s e h) (entries-are f b.entries (p + 34) s (from_entries f p b s e h) h.small)
     in
-    rw (offset, name, count, entries, then-of-valid (unless (text_ok b.name) 5 p))
+    rw (offset, name, count, entries, then-of-valid (unless (text_ok b.name) reason.Text p))
 
 -- the banks from p on to the end, with their offsets from t on; `at` is the first one's
 banks-are : (f : List ℕ) (l : List Bank) (t p at : ℕ) (r : List ℕ) → drop p f ≡ banks_bytes l → Every BankShaped l
     → drop t f ≡ offsets_from at l ++ r → at + length (banks_bytes l) < 256 ^ 4 → banks_place f + at ≡ p
     → p + length (banks_bytes l) ≡ length f → banks_from f (length l) t p ≡ banks_ok (channel_count f) p l
 unfolding banks_from banks_ok joined offsets_from
-banks-are f [] t p at r e h o g q z = unless-passes (leb (length f) p) 12 p (le-leb (length f) p (omega arith))
+banks-are f [] t p at r e h o g q z = unless-passes (leb (length f) p) reason.Trailing p (le-leb (length f) p (omega arith))
 banks-are f (b ∷ l) t p at r e h o g q z =
     let n = length (bank_bytes b) in
     let m = length-append (bank_bytes b) (banks_bytes l) in
@@ -245,7 +245,7 @@ banks-are f (b ∷ l) t p at r e h o g q z =
 
 -- ---- the header
 
-field-more : (a s : List ℕ) (k n number : ℕ) (ok : Bool) → k + n ≤ length a
+field-more : (a s : List ℕ) (k n : ℕ) (number : Reason) (ok : Bool) → k + n ≤ length a
     → field_of (length (a ++ s)) 0 k n number ok ≡ field_of (length a) 0 k n number ok
 field-more a s k n number ok h =
     field-inside (length (a ++ s)) 0 k n number ok (omega (arith, length-append a s))
@@ -260,20 +260,20 @@ preamble-more a s h =
       part_left a s 8 2 (omega arith),
       part_left a s 10 32 (omega arith),
       part_left a s 42 32 (omega arith),
-      field-more a s 0 8 3 (eqb (num a 0 8) 0x43585452) (omega arith),
-      field-more a s 8 2 4 (eqb (num a 8 2) 1) (omega arith),
-      field-more a s 10 32 5 (text_ok (part a 10 32)) (omega arith),
-      field-more a s 42 32 5 (text_ok (part a 42 32)) (omega arith),
+      field-more a s 0 8 reason.Magic (eqb (num a 0 8) 0x43585452) (omega arith),
+      field-more a s 8 2 reason.Version (eqb (num a 8 2) 1) (omega arith),
+      field-more a s 10 32 reason.Text (text_ok (part a 10 32)) (omega arith),
+      field-more a s 42 32 reason.Text (text_ok (part a 42 32)) (omega arith),
     )
 
 header-preamble : (f : List ℕ) → 88 ≤ length f → header_rule f ≡ identity_rule f
 unfolding header_rule ◌then◌
 header-preamble f h =
     rw (
-      field-passes (length f) 0 74 8 7 true (omega arith) refl,
-      field-passes (length f) 0 82 2 7 true (omega arith) refl,
-      field-passes (length f) 0 84 2 7 true (omega arith) refl,
-      field-passes (length f) 0 86 2 7 true (omega arith) refl,
+      field-passes (length f) 0 74 8 reason.Value true (omega arith) refl,
+      field-passes (length f) 0 82 2 reason.Value true (omega arith) refl,
+      field-passes (length f) 0 84 2 reason.Value true (omega arith) refl,
+      field-passes (length f) 0 86 2 reason.Value true (omega arith) refl,
     )
     (then-of-valid (identity_rule f))
 
@@ -309,7 +309,7 @@ module _ (c : Codeplug) (h : Shaped c) where
       let f = codeplug_bytes c in
       let p = offset_place f 0 + i * 4 in
       let a : p + 4 ≤ length f = omega (arith, offset-place c h 0, bank-count c h, length-codeplug c h) in
-      field-passes (length (part f p 4)) p 0 4 7 true (rw (length_part f p 4 a) (omega arith)) refl
+      field-passes (length (part f p 4)) p 0 4 reason.Value true (rw (length_part f p 4 a) (omega arith)) refl
 
   -- the table is inside
   pub offsets-valid : offsets_rule (codeplug_bytes c) ≡ Valid

@@ -1,8 +1,6 @@
 -- What refuses an edit before its result is read (document 01, "The refusals, by number"): 33, 34 and 35.
-use Rattle.std.specs.Prelude.{ℕ, zero, suc, Bool, true, false, ◌&&◌, ◌||◌, not, List, [], ◌∷◌, length, leb, ltb, eqb}
+use Rattle.std.specs.Prelude.{ℕ, zero, suc, Bool, true, false, ◌&&◌, ◌||◌, not, List, [], ◌∷◌, length, leb, ltb, eqb, Some, None, Option}
 use Rattle.channel.specs.Rule.{named_contact}
-use Rattle.channel.specs.declared.ContactIndex.{ContactIndex}
-use Rattle.channel.specs.declared.ContactIndex.TheVariants.{Nobody, Index}
 use Rattle.model.specs.declared.Kind.{Kind}
 use Rattle.model.specs.declared.Kind.TheVariants.{InsertContact, RemoveContact, ReplaceContact, InsertChannel, RemoveChannel, ReplaceChannel, InsertBank, RemoveBank, RenameBank, InsertEntry, RemoveEntry, SetHeader}
 use Rattle.model.specs.Codeplug.{Bank, Codeplug}
@@ -56,9 +54,9 @@ count_ok RemoveEntry i c = true
 count_ok SetHeader i c = true
 
 -- 35: some DMR or M17 channel names contact i
-unfoldable pub is_index : ℕ → ContactIndex → Bool
-is_index i Nobody = false
-is_index i (Index x) = eqb x i
+unfoldable pub is_index : ℕ → Option ℕ → Bool
+is_index i None = false
+is_index i (Some x) = eqb x i
 
 unfoldable pub some_names : ℕ → List (List ℕ) → Bool
 some_names i [] = false

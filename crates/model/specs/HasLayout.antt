@@ -2,9 +2,9 @@
 -- channels hold is not asked. No promise to a caller rests on it.
 use Rattle.std.specs.Prelude.{ℕ, ◌^◌, ◌≤◌, ◌<◌, ◌≡◌, List, length}
 use Rattle.fields.specs.Bytes.{AllBytes}
-use Rattle.fields.specs.declared.rule.Validity.TheVariants.{Valid}
 use Rattle.layout.specs.Places.{banks_place}
 use Rattle.layout.specs.Banks.{banks_rule}
+use Rattle.fields.specs.Rule.{Valid}
 
 pub record HasLayout (f : List ℕ) : Type 0 where
   pub bytes : AllBytes f

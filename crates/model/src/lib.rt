@@ -7,7 +7,6 @@ ghost use Rattle.std.specs.Prelude.{◌≡◌};
 ghost use Rattle.model.specs.EditRules.{is_index};
 ghost use Rattle.model.specs.Kinds.{kind_of, record_length};
 
-use channel::ContactIndex;
 use format::sizes::{BANK_ENTRY_SIZE, CHANNEL_SIZE, CONTACT_SIZE, SET_HEADER_SIZE, TEXT_SIZE};
 
 // The twelve kinds of edits, in the order of document 01.
@@ -27,31 +26,25 @@ pub enum Kind {
     SetHeader,
 }
 
-#[derive(Clone, Copy)]
-pub enum KindRead {
-    Known(Kind),
-    NoKind,
-}
-
 // The kind of a number, 1 to 12.
 #[tactic(auto, unfolding(crate::specs::Kinds::kind_of))]
-pub fn kind_of(n: usize) -> KindRead
+pub fn kind_of(n: usize) -> Option<Kind>
     ensures { result ≡ kind_of n }
 {
     match n {
-        1 => KindRead::Known(Kind::InsertContact),
-        2 => KindRead::Known(Kind::RemoveContact),
-        3 => KindRead::Known(Kind::ReplaceContact),
-        4 => KindRead::Known(Kind::InsertChannel),
-        5 => KindRead::Known(Kind::RemoveChannel),
-        6 => KindRead::Known(Kind::ReplaceChannel),
-        7 => KindRead::Known(Kind::InsertBank),
-        8 => KindRead::Known(Kind::RemoveBank),
-        9 => KindRead::Known(Kind::RenameBank),
-        10 => KindRead::Known(Kind::InsertEntry),
-        11 => KindRead::Known(Kind::RemoveEntry),
-        12 => KindRead::Known(Kind::SetHeader),
-        _ => KindRead::NoKind,
+        1 => Some(Kind::InsertContact),
+        2 => Some(Kind::RemoveContact),
+        3 => Some(Kind::ReplaceContact),
+        4 => Some(Kind::InsertChannel),
+        5 => Some(Kind::RemoveChannel),
+        6 => Some(Kind::ReplaceChannel),
+        7 => Some(Kind::InsertBank),
+        8 => Some(Kind::RemoveBank),
+        9 => Some(Kind::RenameBank),
+        10 => Some(Kind::InsertEntry),
+        11 => Some(Kind::RemoveEntry),
+        12 => Some(Kind::SetHeader),
+        _ => None,
     }
 }
 
@@ -70,11 +63,12 @@ pub fn record_length(k: Kind) -> usize
 }
 
 // Whether a channel's contact index is i.
-pub fn is_index(c: ContactIndex, i: usize) -> bool
+#[tactic(auto, unfolding(crate::specs::EditRules::is_index))]
+pub fn is_index(c: Option<u16>, i: usize) -> bool
     ensures { result ≡ is_index i c }
 {
     match c {
-        ContactIndex::Nobody => false,
-        ContactIndex::Index(x) => x as usize == i,
+        None => false,
+        Some(x) => x as usize == i,
     }
 }

@@ -2,23 +2,19 @@
 ghost use Rattle.std.specs.Prelude.{◌≡◌, ◌++◌, length};
 ghost use Rattle.fields.specs.Bytes.{little_bytes, zeros};
 
-use fields::put::{put, put_le16, put_le32};
+use fields::put::put;
 use format::sizes::BANK_HEAD_SIZE;
 
 pub fn bytes16(x: u16) -> [u8; 2]
     ensures { result ≡ little_bytes 2 x }
 {
-    let mut a = [0u8; 2];
-    put_le16(&mut a, 0, x);
-    a
+    x.to_le_bytes()
 }
 
 pub fn bytes32(x: u32) -> [u8; 4]
     ensures { result ≡ little_bytes 4 x }
 {
-    let mut a = [0u8; 4];
-    put_le32(&mut a, 0, x);
-    a
+    x.to_le_bytes()
 }
 
 // A bank of this name without entries.

@@ -22,8 +22,6 @@ use Rattle.renumber.specs.Shift.{shift_of}
 use Rattle.renumber.specs.Moved.{channels_moved, banks_moved, contacts_follow, entries_follow}
 use Rattle.renumber_last.specs.Last.{Apart, LastMoved}
 use Rattle.renumber.specs.declared.shift.Shift.{Shift}
-use Rattle.renumber_last.specs.declared.Last.{Last}
-use Rattle.renumber_last.specs.declared.Last.TheVariants.{Nowhere, At}
 use Rattle.renumber.proofs.Laws.{length-channels_moved, length-banks_moved, banks_moved-none, banks_moved-last, bank_moved, bank-ends}
 use Rattle.plan.specs.declared.Counted.{Counted}
 use Rattle.plan.specs.declared.Plan.TheVariants.{Contacts, Channels}
@@ -31,6 +29,7 @@ use Rattle.plan.specs.Plan.{counted, planned}
 use Rattle.plan.specs.Fits.{CountedFits, Fits}
 use Rattle.plan_span.specs.Measure.{apart_span}
 use Rattle.plan_span.proofs.ApartLaws.{apart-change}
+use Rattle.std.specs.Prelude.{Some, None, Option}
 
 -- ---- bytes
 
@@ -70,23 +69,23 @@ bytes-banks g f (suc n) p b h =
 
 -- ---- what the last index that moves, o, tells of a cut and its count
 
-pub record Renumbered (s : Shift) (c : Counted) (r f new : List ℕ) (o : Last) : Type 0 where
+pub record Renumbered (s : Shift) (c : Counted) (r f new : List ℕ) (o : Option ℕ) : Type 0 where
   pub whole : CountedFits c f (length f)
-  pub none : o ≡ Nowhere → new ≡ counted c r f
-  pub inside : (l : ℕ) → o ≡ At l → l + 2 ≤ length f
-  pub fits : (l : ℕ) → o ≡ At l → CountedFits c f l
-  pub span : (l x : ℕ) (w : Span) → o ≡ At l → x ≡ shift_of s (num f l 2) → w ≡ apart_span c r f l x → w ≡ span_of (entry_of f new)
+  pub none : o ≡ None → new ≡ counted c r f
+  pub inside : (l : ℕ) → o ≡ Some l → l + 2 ≤ length f
+  pub fits : (l : ℕ) → o ≡ Some l → CountedFits c f l
+  pub span : (l x : ℕ) (w : Span) → o ≡ Some l → x ≡ shift_of s (num f l 2) → w ≡ apart_span c r f l x → w ≡ span_of (entry_of f new)
 
 -- a cut that stands in the first `end` bytes stands in more of them
 fits_more : (c : Counted) (f : List ℕ) (end more : ℕ) → CountedFits c f end → end ≤ more → more ≤ length f → CountedFits c f more
 fits_more c f end more h a b = record { before = h.before; inside = omega (arith, h.inside); end-inside = b; changes = h.changes }
 
 -- m is written over the renumbered part
-renumbered : (s : Shift) (c : Counted) (r f m : List ℕ) (from : ℕ) (o : Last) → CountedFits c f from → from + length m ≤ length f → AllBytes f
+renumbered : (s : Shift) (c : Counted) (r f m : List ℕ) (from : ℕ) (o : Option ℕ) → CountedFits c f from → from + length m ≤ length f → AllBytes f
     → AllBytes m → LastMoved (shift_of s) f (over f from m) from o → Renumbered s c r f (counted c r (over f from m)) o
 unfolding LastMoved
 renumbered s c r f m from o fits h bf bm u =
-    let a : (l : ℕ) → o ≡ At l → Apart (shift_of s) f (over f from m) from l = λ l e. rw e at u in
+    let a : (l : ℕ) → o ≡ Some l → Apart (shift_of s) f (over f from m) from l = λ l e. rw e at u in
     record {
       whole = fits_more c f from (length f) fits fits.end-inside (omega arith);
       none = λ e. ap (counted c r) (rw e at u);
@@ -99,7 +98,7 @@ renumbered s c r f m from o fits h bf bm u =
     }
 
 -- the contact indexes of n channels at `start`
-pub contacts-follow : (s : Shift) (c : Counted) (r f : List ℕ) (start n : ℕ) (o : Last) → start ≡ channel_place f 0 → n ≡ channel_count f
+pub contacts-follow : (s : Shift) (c : Counted) (r f : List ℕ) (start n : ℕ) (o : Option ℕ) → start ≡ channel_place f 0 → n ≡ channel_count f
     → LastMoved (shift_of s) f (over f start (channels_moved (shift_of s) f n start)) start o → Fits (Contacts s c) r f → AllBytes f
     → Renumbered s c r f (planned (Contacts s c) r f) o
 unfolding planned contacts_follow Fits
@@ -110,7 +109,7 @@ contacts-follow s c r f start n o es en u h b =
     renumbered s c r f (channels_moved (shift_of s) f k p) p o h.0 (omega arith) b (bytes-channels (shift_of s) f k p b) (rw (es, en) at u)
 
 -- the entries of n banks at `start`
-pub entries-follow : (s : Shift) (c : Counted) (r f : List ℕ) (start n : ℕ) (o : Last) → start ≡ banks_place f → n ≡ bank_count f
+pub entries-follow : (s : Shift) (c : Counted) (r f : List ℕ) (start n : ℕ) (o : Option ℕ) → start ≡ banks_place f → n ≡ bank_count f
     → LastMoved (shift_of s) f (over f start (banks_moved (shift_of s) f n start)) start o → Fits (Channels s c) r f → AllBytes f
     → Renumbered s c r f (planned (Channels s c) r f) o
 unfolding planned entries_follow Fits

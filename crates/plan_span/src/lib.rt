@@ -10,7 +10,7 @@ ghost use Rattle.plan.specs.declared.Plan.TheVariants as plan;
 ghost use Rattle.plan.specs.Fits.{CountedFits, Fits};
 ghost use Rattle.plan_span.specs.Measure.{span_from, apart_span};
 
-use affixes::pieces::common_suffix3;
+use affixes::pieces::common_suffix_pieces;
 use affixes::{common_prefix, common_suffix};
 use fields::numbers::le16;
 use journal::recording::Span;
@@ -19,7 +19,7 @@ use plan::numbers::{bytes16, bytes32};
 use plan::{Block, Counted, Plan, Table};
 use plan_suffix::{bank_suffix, entries_suffix};
 use renumber::shift::{Shift, shifted};
-use renumber_last::{Last, last_contact, last_entry};
+use renumber_last::{last_contact, last_entry};
 
 // A change from p on, with so many bytes that agree behind it in files of these lengths.
 fn span_from(p: usize, tail: usize, old: usize, new: usize) -> Span
@@ -57,7 +57,7 @@ fn counted_span(f: &[u8], c: Counted, r: &[u8]) -> Span
     let at = c.at;
     let end = at + c.gone;
     let n = bytes16(c.count);
-    let tail = common_suffix3(&f[counter..end], &n, &f[counter + 2..at], r);
+    let tail = common_suffix_pieces(&f[counter..end], &[&n, &f[counter + 2..at], r]);
     span_from(
         counter,
         f.len() - end + tail,
@@ -84,8 +84,8 @@ fn contacts_span(f: &[u8], s: Shift, c: Counted, r: &[u8]) -> Span
     ensures { result ≡ span_of (entry_of f.now (planned (plan.Contacts s c) r.now f.now)) }
 {
     match last_contact(f, channel_place(f, 0), channel_count(f), s) {
-        Last::Nowhere => counted_span(f, c, r),
-        Last::At(l) => apart_span(f, c, l, shifted(le16(f, l), s), r),
+        None => counted_span(f, c, r),
+        Some(l) => apart_span(f, c, l, shifted(le16(f, l), s), r),
     }
 }
 
@@ -94,8 +94,8 @@ fn channels_span(f: &[u8], s: Shift, c: Counted, r: &[u8]) -> Span
     ensures { result ≡ span_of (entry_of f.now (planned (plan.Channels s c) r.now f.now)) }
 {
     match last_entry(f, banks_place(f), bank_count(f), s) {
-        Last::Nowhere => counted_span(f, c, r),
-        Last::At(l) => apart_span(f, c, l, shifted(le16(f, l), s), r),
+        None => counted_span(f, c, r),
+        Some(l) => apart_span(f, c, l, shifted(le16(f, l), s), r),
     }
 }
 

@@ -1,17 +1,16 @@
 -- Laws of what two files have in common behind a change.
 use Prim.Native.Nat.{ℕ, zero, suc, ◌+◌, ◌-◌, ◌*◌, ◌^◌, ◌≤◌, ◌<◌}
 use mathlib.Core.Path.{◌≡◌, refl, ap, sym, ◌∙◌}
-use mathlib.Core.List.{List, [], ◌++◌, append_assoc, append-nil}
+use mathlib.Core.List.{List, ◌++◌, append_assoc, append-nil}
 use native.Mathlib.Omega.{arith}
 use lib.ListN.{length, take, drop, length-append}
-use lib.Seq.{take-take, length-take-le, take-length}
+use lib.Seq.{take-take}
 use mir.Syntax.{w64}
 use mir.Val.{Fits}
 use Rattle.fields.specs.Bytes.{part, num, little_bytes}
 use Rattle.fields.proofs.Laws.{length_part, length-little_bytes}
 use Rattle.affixes.specs.Common.{common_suffix}
-use Rattle.affixes.proofs.Laws.{common_suffix-right}
-use Rattle.affixes.proofs.PieceLaws.{piece-stops, piece-goes, piece-left, piece-fits}
+use Rattle.affixes.proofs.PieceLaws.{piece-stops, piece-goes, piece-left, piece-fits, turn, turn-done}
 use Rattle.renumber.specs.Moved.{offsets_moved}
 use Rattle.plan.specs.declared.Counted.{Counted}
 use Rattle.plan.specs.declared.Table.{Table}
@@ -49,11 +48,6 @@ offsets-last (suc n) g f p =
     rw e (ap (λ (l : List ℕ). little_bytes 4 (g (num f p 4)) ++ l) (offsets-last n g f (p + 4))
     ∙ sym (append_assoc (little_bytes 4 (g (num f p 4))) (offsets_moved n g f (p + 4)) (little_bytes 4 (g (num f (p + 4 + n * 4) 4)))))
 
-pub suffix-none : (s w : List ℕ) → common_suffix s w ≡ 0 + common_suffix (take (length s - 0) s) w
-suffix-none s w =
-    let e : length s - 0 ≡ length s = omega arith in
-    rw (e, take-length s) (omega arith)
-
 -- the last e bytes agree; i offsets are left, and of the last of them, x, k bytes agree
 pub record Iteration (s w : List ℕ) (g : ℕ → ℕ) (f : List ℕ) (p i e k : ℕ) : Type 0 where
   pub room : e + k ≤ length s
@@ -64,29 +58,19 @@ pub iteration : (s w : List ℕ) (g : ℕ → ℕ) (f x : List ℕ) (p i e k : �
     → common_suffix s w ≡ e + common_suffix (take (length s - e) s) (offsets_moved i g f p)
     → x ≡ little_bytes 4 (g (num f (p + (i - 1) * 4) 4)) → k ≡ common_suffix (take (length s - e) s) x → Iteration s w g f p i e k
 iteration s w g f x p i e k hi he inv ex ek =
-    let t = take (length s - e) s in
     let a = offsets_moved (i - 1) g f p in
     let j : suc (i - 1) ≡ i = omega arith in
     let eb : offsets_moved i g f p ≡ a ++ x = rw ex (rw j at (offsets-last (i - 1) g f p)) in
-    let lt : length t ≡ length s - e = length-take-le (length s - e) s (omega arith) in
-    let c = compared t (offsets_moved i g f p) a x 4 k eb (rw ex (length-little_bytes 4 (g (num f (p + (i - 1) * 4) 4)))) ek in
-    let n : length s - e - k ≡ length s - (e + k) = omega arith in
-    let m : take (length t - k) t ≡ take (length s - (e + k)) s =
-    rw (lt, n) (take-take (length s - (e + k)) (length s - e) s (omega arith))
-    in
-    record {
-      room = omega (arith, c.room);
-      stops = λ h. omega (arith, c.stops h);
-      goes = λ h. omega (arith, c.goes h (common_suffix (take (length s - (e + k)) s) a) (rw m));
-    }
+    let l : length x ≡ 4 = rw ex (length-little_bytes 4 (g (num f (p + (i - 1) * 4) 4))) in
+    let t = turn s w (offsets_moved i g f p) a x e k he inv eb ek in
+    record { room = t.room; stops = λ h. t.stops (omega arith); goes = λ h. t.goes (omega arith) }
 
 pub suffix-done : (s w : List ℕ) (g : ℕ → ℕ) (f : List ℕ) (p i e : ℕ) → i ≤ 0
     → common_suffix s w ≡ e + common_suffix (take (length s - e) s) (offsets_moved i g f p) → e ≡ common_suffix s w
 unfolding offsets_moved
 suffix-done s w g f p i e z h =
     let k : i ≡ 0 = omega arith in
-    let j : common_suffix s w ≡ e + common_suffix (take (length s - e) s) (offsets_moved 0 g f p) = rw k at h in
-    omega (arith, common_suffix-right (take (length s - e) s) [])
+    turn-done s w e (rw k at h)
 
 -- ---- the bytes of f from p up to q compared so
 

@@ -7,7 +7,7 @@ ghost use Rattle.plan_suffix.specs.Suffix.{table_end, new_offsets, entries_suffi
 ghost use Rattle.plan_suffix.specs.Suffix.{EntriesInside, TableInside, BankInside};
 
 use affixes::common_suffix;
-use affixes::pieces::{common_suffix3, common_suffix4};
+use affixes::pieces::common_suffix_pieces;
 use fields::numbers::le32;
 use plan::numbers::{bytes16, bytes32};
 use plan::{Block, Counted, Table};
@@ -20,10 +20,8 @@ fn common_suffix_offsets(s: &[u8], f: &[u8], t: Table) -> usize
 {
     let start = t.start;
     let growth = t.growth;
-    let mut i = t.many;
     let mut e = 0;
-    while 0 < i {
-        i -= 1;
+    for i in (0..t.many).rev() {
         let x = bytes32(grown(le32(f, start + i * 4), growth));
         let same = common_suffix(&s[..s.len() - e], &x);
         e += same;
@@ -45,12 +43,9 @@ pub fn entries_suffix(f: &[u8], t: Table, c: Counted, r: &[u8]) -> usize
     let at = c.at;
     let end = at + c.gone;
     let n = bytes16(c.count);
-    let e = common_suffix4(
+    let e = common_suffix_pieces(
         &f[start..end],
-        &f[after..counter],
-        &n,
-        &f[counter + 2..at],
-        r,
+        &[&f[after..counter], &n, &f[counter + 2..at], r],
     );
     if e < at - after + r.len() {
         return e;
@@ -70,7 +65,7 @@ fn table_suffix(s: &[u8], f: &[u8], t: Table, c: Counted, added: &[u8]) -> usize
     let counter = c.counter;
     let at = c.at;
     let n = bytes16(c.count);
-    e + common_suffix3(&s[..s.len() - e], &n, &f[counter + 2..at], added)
+    e + common_suffix_pieces(&s[..s.len() - e], &[&n, &f[counter + 2..at], added])
 }
 
 // What agrees of f from the bank count up to a bank's end, and the new bytes there: those of `table_suffix`, banks, a and b.
@@ -90,7 +85,7 @@ pub fn bank_suffix(
     let counter = c.counter;
     let at = k.at;
     let end = at + k.size;
-    let e = common_suffix3(&f[counter..end], &f[after..at], a, b);
+    let e = common_suffix_pieces(&f[counter..end], &[&f[after..at], a, b]);
     let rest = a.len() + b.len();
     if e < rest {
         return e;

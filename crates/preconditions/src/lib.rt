@@ -7,32 +7,31 @@ ghost use Rattle.journal.specs.Machine.{whole_rule, buffers_rule};
 ghost use Rattle.edits.specs.Editing.{editing};
 ghost use Rattle.preconditions.specs.Calls.{state_of};
 
-use fields::rule::{Validity, first};
-use format::refusals::{BAD_HISTORY, BAD_LENGTH};
-use journal::scan::{HistoryRead, history_entries};
+use fields::rule::unless;
+use format::refusals::{Reason, Refusal};
+use journal::scan::history_entries;
 use m17::Edition;
 use validation::validity_of;
 
-fn whole_entries(h: &[u8]) -> Validity
+#[tactic(auto, using(crate::proofs::PreconditionLaws::whole_counted))]
+fn whole_entries(h: &[u8]) -> Result<(), Refusal>
     ensures { result ≡ whole_rule (entries_of h.now) }
 {
-    match history_entries(h) {
-        HistoryRead::Entries(_) => Validity::Valid,
-        HistoryRead::Broken => Validity::Refused(BAD_HISTORY, 0),
-    }
+    unless(history_entries(h).is_some(), Reason::BadHistory, 0)
 }
 
-pub fn check(room: &[u8], len: usize, history: &[u8], used: usize, edition: Edition) -> Validity
+#[tactic(auto, unfolding(journal::specs::Machine::buffers_rule, journal::specs::Machine::file_of, journal::specs::Machine::history_of), using(fields::proofs::Laws::ok_then, fields::proofs::Laws::err_then))]
+pub fn check(
+    room: &[u8],
+    len: usize,
+    history: &[u8],
+    used: usize,
+    edition: Edition,
+) -> Result<(), Refusal>
     ensures { result ≡ buffers_rule (editing edition) (state_of room.now len history.now used) }
 {
-    if room.len() < len {
-        return Validity::Refused(BAD_LENGTH, 0);
-    }
-    if history.len() < used {
-        return Validity::Refused(BAD_LENGTH, 0);
-    }
-    first(
-        validity_of(&room[..len], edition),
-        whole_entries(&history[..used]),
-    )
+    let inside = (len <= room.len()) & (used <= history.len());
+    unless(inside, Reason::BadLength, 0)?;
+    validity_of(&room[..len], edition)?;
+    whole_entries(&history[..used])
 }

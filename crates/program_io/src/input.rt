@@ -17,6 +17,7 @@ pub fn read_full<R: Read>(input: &mut R, buffer: &mut [u8]) -> Result<usize>
     ensures end { IfOk result (λ n. n < length buffer.new → IsAtEnd (R.remaining input.new)) }
     ensures error { IfErr result (λ _. length buffer.new ≡ length buffer.old) }
 {
+    // No `for`: each read says how many bytes came.
     let mut done = 0;
     while done < buffer.len() {
         let n = input.read(&mut buffer[done..])?;

@@ -12,7 +12,7 @@ ghost use Rattle.renumber.specs.Moved.{channels_moved, banks_moved, offsets_move
 use fields::numbers::{le16, le32};
 use fields::put::{put_le16, put_le32};
 use format::sizes::{
-    BANK_ENTRY_SIZE, BANK_HEAD_SIZE, CHANNEL_SIZE, DMR_CONTACT_AT, M17_CONTACT_AT,
+    BANK_ENTRY_SIZE, BANK_HEAD_SIZE, CHANNEL_SIZE, DMR_CONTACT_AT, M17_CONTACT_AT, OFFSET_SIZE,
 };
 use layout::places::entry_count;
 use renumber::shift::{Growth, Shift, grown, shifted};
@@ -45,12 +45,8 @@ pub fn move_contacts(d: &mut [u8], start: usize, n: usize, s: Shift)
     requires { (start + n * 90 ≤ length d.old) × (n < 65536) }
     ensures { d.new ≡ over d.old start (channels_moved (shift_of s) d.old n start) }
 {
-    let mut i = 0;
-    let mut p = start;
-    while i < n {
-        move_contact(d, p, s);
-        i += 1;
-        p += CHANNEL_SIZE;
+    for i in 0..n {
+        move_contact(d, start + i * CHANNEL_SIZE, s);
     }
 }
 
@@ -59,12 +55,8 @@ fn move_run(d: &mut [u8], start: usize, n: usize, s: Shift)
     requires { (start + n * 2 ≤ length d.old) × (n < 65536) }
     ensures { d.new ≡ over d.old start (pairs (map (shift_of s) (indexes_at d.old n start))) }
 {
-    let mut i = 0;
-    let mut p = start;
-    while i < n {
-        move_index(d, p, s);
-        i += 1;
-        p += 2;
+    for i in 0..n {
+        move_index(d, start + i * BANK_ENTRY_SIZE, s);
     }
 }
 
@@ -73,12 +65,10 @@ pub fn move_entries(d: &mut [u8], start: usize, n: usize, s: Shift)
     requires { ((bank_from d.old n start ≤ length d.old) × (length d.old < 2 ^ 32)) × (n < 65536) }
     ensures { d.new ≡ over d.old start (banks_moved (shift_of s) d.old n start) }
 {
-    let mut i = 0;
     let mut p = start;
-    while i < n {
+    for _ in 0..n {
         let count = entry_count(d, p);
         move_run(d, p + BANK_HEAD_SIZE, count, s);
-        i += 1;
         p += BANK_HEAD_SIZE + count * BANK_ENTRY_SIZE;
     }
 }
@@ -88,11 +78,8 @@ pub fn move_offsets(d: &mut [u8], start: usize, n: usize, g: Growth)
     requires { (start + n * 4 ≤ length d.old) × (n < 65536) }
     ensures { d.new ≡ over d.old start (offsets_moved n (growth_of g) d.old start) }
 {
-    let mut i = 0;
-    let mut p = start;
-    while i < n {
+    for i in 0..n {
+        let p = start + i * OFFSET_SIZE;
         put_le32(d, p, grown(le32(d, p), g));
-        i += 1;
-        p += 4;
     }
 }

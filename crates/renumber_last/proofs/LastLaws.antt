@@ -10,18 +10,18 @@ use Rattle.buffers.proofs.Laws.{over-ahead}
 use Rattle.layout.specs.Banks.{entry_count, bank_from}
 use Rattle.model.specs.Codeplug.{pairs, indexes_at}
 use Rattle.model.specs.Edits.{move_contact}
-use Rattle.renumber_last.specs.declared.Last.{Last}
-use Rattle.renumber_last.specs.declared.Last.TheVariants.{Nowhere, At}
 use Rattle.renumber.specs.Moved.{channels_moved, banks_moved}
-use Rattle.renumber_last.specs.Last.{LastMoved, later_of}
+use Rattle.renumber_last.specs.Last.{LastMoved}
 use Rattle.renumber.proofs.Laws.{drop-over-behind, over-self, moved-wide, length-channels_moved, channels_moved-last, length_run, run-last}
 use Rattle.renumber.proofs.Laws.{bank_moved, bank-over, bank-ends, length-bank_moved, banks_moved-last, length-banks_moved}
+use Rattle.std.specs.Prelude.{Some, None, Option}
+use Rattle.std.specs.Option.{option_or}
 
 -- ---- one index: x is the index at p, y where it moves to
 
 -- it stays
 pub index_stays : (g : ℕ → ℕ) (f : List ℕ) (p x y : ℕ) → AllBytes f → p + 2 ≤ length f → x ≡ num f p 2 → y ≡ g x → y ≡ x
-    → LastMoved g f (over f p (little_bytes 2 (g (num f p 2)))) p Nowhere
+    → LastMoved g f (over f p (little_bytes 2 (g (num f p 2)))) p None
 unfolding LastMoved
 index_stays g f p x y b h ex ey e =
     let z : g (num f p 2) ≡ num f p 2 = ap g (sym ex) ∙ (sym ey ∙ (e ∙ ex)) in
@@ -29,7 +29,7 @@ index_stays g f p x y b h ex ey e =
 
 -- it moves
 pub index-moves : (g : ℕ → ℕ) (f : List ℕ) (p x y : ℕ) → p + 2 ≤ length f → g (num f p 2) < 65536 → x ≡ num f p 2 → y ≡ g x → (y ≡ x → ⊥)
-    → LastMoved g f (over f p (little_bytes 2 (g (num f p 2)))) p (At p)
+    → LastMoved g f (over f p (little_bytes 2 (g (num f p 2)))) p (Some p)
 unfolding LastMoved
 index-moves g f p x y h s ex ey n =
     let z = g (num f p 2) in
@@ -44,15 +44,15 @@ index-moves g f p x y h s ex ey n =
 
 -- ---- a run of records
 
-pub last_none : (g : ℕ → ℕ) (f : List ℕ) (p : ℕ) → LastMoved g f (over f p []) p Nowhere
+pub last_none : (g : ℕ → ℕ) (f : List ℕ) (p : ℕ) → LastMoved g f (over f p []) p None
 unfolding LastMoved
 last_none g f p = sym (over_none f p)
 
 -- the same renumbering, written another way and from an earlier place on
-pub last-from : (g : ℕ → ℕ) (f h k : List ℕ) (p q : ℕ) (r : Last) → q ≤ p → h ≡ k → LastMoved g f h p r → LastMoved g f k q r
+pub last-from : (g : ℕ → ℕ) (f h k : List ℕ) (p q : ℕ) (r : Option ℕ) → q ≤ p → h ≡ k → LastMoved g f h p r → LastMoved g f k q r
 unfolding LastMoved
-last-from g f h k p q Nowhere o e u = sym e ∙ u
-last-from g f h k p q (At l) o e u =
+last-from g f h k p q None o e u = sym e ∙ u
+last-from g f h k p q (Some l) o e u =
     record {
       starts = omega (arith, u.starts);
       inside = u.inside;
@@ -62,11 +62,11 @@ last-from g f h k p q (At l) o e u =
     }
 
 -- h is f renumbered from p on; then a is written before that
-last-later : (g : ℕ → ℕ) (f h a : List ℕ) (start p : ℕ) (r q : Last) → p ≡ start + length a → p ≤ length h
-    → LastMoved g f (over f start a) start r → LastMoved g f h p q → LastMoved g f (over h start a) start (later_of r q)
-unfolding LastMoved later_of
-last-later g f h a start p r Nowhere s i u v = rw v u
-last-later g f h a start p r (At l) s i u v =
+last-later : (g : ℕ → ℕ) (f h a : List ℕ) (start p : ℕ) (r q : Option ℕ) → p ≡ start + length a → p ≤ length h
+    → LastMoved g f (over f start a) start r → LastMoved g f h p q → LastMoved g f (over h start a) start (option_or q r)
+unfolding LastMoved
+last-later g f h a start p r None s i u v = rw v u
+last-later g f h a start p r (Some l) s i u v =
     let o : p ≤ l = v.starts in
     let at : drop l (over h start a) ≡ drop l h = drop-over-behind h start a l (omega arith) (omega arith) in
     record {
@@ -78,28 +78,28 @@ last-later g f h a start p r (At l) s i u v =
     }
 
 -- a at `start` and then b at p, right behind it: t is the last of both
-pub last_step : (g : ℕ → ℕ) (f a b c : List ℕ) (start p : ℕ) (r q t : Last) → p ≡ start + length a → p + length b ≤ length f → a ++ b ≡ c
-    → LastMoved g f (over f start a) start r → LastMoved g f (over f p b) p q → t ≡ later_of r q → LastMoved g f (over f start c) start t
+pub last_step : (g : ℕ → ℕ) (f a b c : List ℕ) (start p : ℕ) (r q t : Option ℕ) → p ≡ start + length a → p + length b ≤ length f → a ++ b ≡ c
+    → LastMoved g f (over f start a) start r → LastMoved g f (over f p b) p q → t ≡ option_or q r → LastMoved g f (over f start c) start t
 last_step g f a b c start p r q t s h x u v w =
     let e : over (over f p b) start a ≡ over f start c = over-ahead f start a p b s (omega arith) ∙ ap (λ (l : List ℕ). over f start l) x in
     rw w
-    (last-from g f (over (over f p b) start a) (over f start c) start start (later_of r q) (omega arith) e
+    (last-from g f (over (over f p b) start a) (over f start c) start start (option_or q r) (omega arith) e
     (last-later g f (over f p b) a start p r q s (rw (length_over f p b h) (omega arith)) u v))
 
 -- ---- a turn of each loop, at the i-th record, which stands at p
 
-pub contacts-last : (g : ℕ → ℕ) (f : List ℕ) (start i p : ℕ) (r q t : Last) → p ≡ start + i * 90 → start + i * 90 + 90 ≤ length f
+pub contacts-last : (g : ℕ → ℕ) (f : List ℕ) (start i p : ℕ) (r q t : Option ℕ) → p ≡ start + i * 90 → start + i * 90 + 90 ≤ length f
     → LastMoved g f (over f start (channels_moved g f i start)) start r → LastMoved g f (over f p (move_contact g (part f p 90))) p q
-    → t ≡ later_of r q → LastMoved g f (over f start (channels_moved g f (i + 1) start)) start t
+    → t ≡ option_or q r → LastMoved g f (over f start (channels_moved g f (i + 1) start)) start t
 contacts-last g f start i p r q t at h u v w =
     let n = length-channels_moved g f i start (omega arith) in
     let m = moved-wide g (part f p 90) (length_part f p 90 (omega arith)) in
     last_step g f (channels_moved g f i start) (move_contact g (part f p 90)) (channels_moved g f (i + 1) start) start p r q t
     (omega arith) (omega arith) (rw at (channels_moved-last g f i start)) u v w
 
-pub run-last-step : (g : ℕ → ℕ) (f : List ℕ) (start i p : ℕ) (r q t : Last) → p ≡ start + i * 2 → start + i * 2 + 2 ≤ length f
+pub run-last-step : (g : ℕ → ℕ) (f : List ℕ) (start i p : ℕ) (r q t : Option ℕ) → p ≡ start + i * 2 → start + i * 2 + 2 ≤ length f
     → LastMoved g f (over f start (pairs (map g (indexes_at f i start)))) start r
-    → LastMoved g f (over f p (little_bytes 2 (g (num f p 2)))) p q → t ≡ later_of r q
+    → LastMoved g f (over f p (little_bytes 2 (g (num f p 2)))) p q → t ≡ option_or q r
     → LastMoved g f (over f start (pairs (map g (indexes_at f (i + 1) start)))) start t
 run-last-step g f start i p r q t at h u v w =
     let n = length_run g f i start in
@@ -108,10 +108,10 @@ run-last-step g f start i p r q t at h u v w =
     (omega arith) (omega arith) (rw at (run-last g f i start)) u v w
 
 -- the bank at p has k entries
-pub entries-last : (g : ℕ → ℕ) (f : List ℕ) (start i p k : ℕ) (r q t : Last) → AllBytes f → p ≡ bank_from f i start
+pub entries-last : (g : ℕ → ℕ) (f : List ℕ) (start i p k : ℕ) (r q t : Option ℕ) → AllBytes f → p ≡ bank_from f i start
     → p + 34 + k * 2 ≤ length f → k ≡ entry_count f p
     → LastMoved g f (over f start (banks_moved g f i start)) start r
-    → LastMoved g f (over f (p + 34) (pairs (map g (indexes_at f k (p + 34))))) (p + 34) q → t ≡ later_of r q
+    → LastMoved g f (over f (p + 34) (pairs (map g (indexes_at f k (p + 34))))) (p + 34) q → t ≡ option_or q r
     → LastMoved g f (over f start (banks_moved g f (i + 1) start)) start t
 entries-last g f start i p k r q t b at h c u v w =
     let e : bank_from f (i + 1) start ≡ p + 34 + entry_count f p * 2 = rw at (bank-ends f i start) in

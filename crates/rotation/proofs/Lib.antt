@@ -1,2 +1,2 @@
--- Laws of bytes reversed, rotated and swapped.
+-- Laws of bytes rotated.
 pub mod RotationLaws

@@ -1,2 +1,2 @@
--- Bytes reversed, rotated and swapped: how the code goes about it.
+-- Bytes rotated: how the code goes about it.
 pub mod Rotation

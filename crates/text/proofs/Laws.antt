@@ -1,33 +1,21 @@
 -- Laws of texts: a field's bytes go to a text and back, and validation's step from byte to byte. By recursion on the list.
 use Prim.Native.Nat.{ℕ, zero, suc, ◌+◌, ◌-◌, ◌≤◌, ◌<◌}
 use mathlib.Core.Path.{◌≡◌, refl, sym, ap, ◌∙◌}
-use mathlib.Core.Logic.{◌⊎◌, inl, inr}
-use mathlib.Core.Bool.{Bool, true, false, ◌&&◌, ◌||◌, not, cond, false≢true}
+use mathlib.Core.Bool.{Bool, true, false, ◌&&◌, ◌||◌, not, cond}
 use mathlib.Core.List.{List, [], ◌∷◌, ◌++◌}
 use native.Mathlib.Nat.{add-zero}
 use native.Mathlib.Numerals.{add-one}
 use native.Mathlib.Omega.{arith}
-use borrow.Author.Tests.{leb-true, leb-false, le-leb, lt-leb, le-ltb, lt-ltb, eq-eqb, ne_eqb, eqb-true}
-use mir.Val.{bool_byte}
-use lib.Dec.{leb, eqb, ltb}
+use borrow.Author.Tests.{leb-true, le-leb, ne_eqb, eqb-true}
+use lib.Dec.{leb, eqb}
 use lib.ListN.{length, drop, get_or, length-append, length-replicate, drop_of_length-le}
 use lib.Seq.{drop-cons}
+use Rattle.std.proofs.lemmas.Bool.{and_parts, and_from}
 use Rattle.fields.specs.Bytes.{zeros}
 use Rattle.text.specs.Text.{printable, plain_text, all_zero, text_of, text_ok, given_ok, padded}
 use Rattle.text.specs.Scan.{fault_after, step_fault, rest_ok}
 
 -- Bool
-
-and_left : (a b : Bool) → a && b ≡ true → a ≡ true
-and_left true b h = refl
-and_left false b h = h
-
-and_right : (a b : Bool) → a && b ≡ true → b ≡ true
-and_right true b h = h
-and_right false b h = absurd (false≢true h)
-
-both : {a b : Bool} → a ≡ true → b ≡ true → a && b ≡ true
-both p q = rw (p, q)
 
 and_assoc : (a b c : Bool) → a && b && c ≡ a && (b && c)
 and_assoc true b c = refl
@@ -37,19 +25,10 @@ and_assoc false b c = refl
 
 pub printable-range : (b : ℕ) → printable b ≡ true → (32 ≤ b) × (b ≤ 126)
 unfolding printable
-printable-range b h = (leb-true 32 b (and_left _ _ h), leb-true b 126 (and_right (leb 32 b) _ h))
+printable-range b h = let p = and_parts _ _ h in (leb-true 32 b p.0, leb-true b 126 p.1)
 
 pub printable-nonzero : (b : ℕ) → printable b ≡ true → eqb b 0 ≡ false
 printable-nonzero b h = let l : (32 ≤ b) × (b ≤ 126) = printable-range b h in ne_eqb b 0 (λ e. omega arith)
-
-pub unprintable : (b : ℕ) → (b < 32) ⊎ (126 < b) → printable b ≡ false
-unfolding printable
-unprintable b (inl h) = rw (lt-leb 32 b h)
-unprintable b (inr h) = rw (le-leb 32 b (omega arith), lt-leb b 126 h)
-
-pub is-printable : (b : ℕ) → 32 ≤ b → b ≤ 126 → printable b ≡ true
-unfolding printable
-is-printable b l h = rw (le-leb 32 b l, le-leb b 126 h)
 
 -- A field, byte by byte
 
@@ -87,37 +66,19 @@ pub all_zero-is : (s : List ℕ) → all_zero s ≡ true → s ≡ zeros (length
 unfolding all_zero zeros
 all_zero-is [] h = refl
 all_zero-is (b ∷ s) h =
-    let e : b ≡ 0 = eqb-true b 0 (and_left _ _ h) in
-    let r : s ≡ zeros (length s) = all_zero-is s (and_right (eqb b 0) _ h) in
+    let e : b ≡ 0 = eqb-true b 0 (and_parts _ _ h).0 in
+    let r : s ≡ zeros (length s) = all_zero-is s (and_parts (eqb b 0) _ h).1 in
     cc
-
--- A text, byte by byte: what is left behind i decides
-
-plain-next : (s : List ℕ) (i : ℕ) → i < length s → plain_text (drop i s) ≡ printable (get_or s i 0) && plain_text (drop (i + 1) s)
-unfolding plain_text
-plain-next s i h = rw (drop-cons s i 0 h, add-one)
-
-pub plain_step : (s : List ℕ) (i : ℕ) → i < length s → 32 ≤ get_or s i 0 → get_or s i 0 ≤ 126
-    → plain_text s ≡ plain_text (drop i s) → plain_text s ≡ plain_text (drop (i + 1) s)
-plain_step s i h l u inv = inv ∙ (plain-next s i h ∙ rw (is-printable (get_or s i 0) l u))
-
-pub plain-stop : (s : List ℕ) (i : ℕ) → i < length s → (get_or s i 0 < 32) ⊎ (126 < get_or s i 0)
-    → plain_text s ≡ plain_text (drop i s) → false ≡ plain_text s
-plain-stop s i h bad inv = sym (inv ∙ (plain-next s i h ∙ rw (unprintable (get_or s i 0) bad)))
-
-pub plain_end : (s : List ℕ) (i : ℕ) → length s ≤ i → plain_text s ≡ plain_text (drop i s) → true ≡ plain_text s
-unfolding plain_text
-plain_end s i h inv = sym (inv ∙ rw (drop_of_length-le s {i = i} h))
 
 -- A text with zeros after it
 
 plain-head : (b : ℕ) (s : List ℕ) → plain_text (b ∷ s) ≡ true → printable b ≡ true
 unfolding plain_text
-plain-head b s h = and_left _ _ h
+plain-head b s h = (and_parts _ _ h).0
 
 plain-tail : (b : ℕ) (s : List ℕ) → plain_text (b ∷ s) ≡ true → plain_text s ≡ true
 unfolding plain_text
-plain-tail b s h = and_right (printable b) _ h
+plain-tail b s h = (and_parts (printable b) _ h).1
 
 text_ok-zeros : (n : ℕ) → text_ok (zeros n) ≡ true
 unfolding text_ok text_of plain_text all_zero zeros
@@ -142,11 +103,11 @@ text_of-append (b ∷ s) n h =
 
 pub given_ok-length : (s : List ℕ) → given_ok s ≡ true → length s ≤ 32
 unfolding given_ok
-given_ok-length s h = leb-true (length s) 32 (and_left _ _ h)
+given_ok-length s h = leb-true (length s) 32 (and_parts _ _ h).0
 
 pub given_ok-plain : (s : List ℕ) → given_ok s ≡ true → plain_text s ≡ true
 unfolding given_ok
-given_ok-plain s h = and_right (leb (length s) 32) _ h
+given_ok-plain s h = (and_parts (leb (length s) 32) _ h).1
 
 pub length-padded : (s : List ℕ) → length s ≤ 32 → length (padded s) ≡ 32
 unfolding padded zeros
@@ -166,7 +127,7 @@ pub given-text_of : (s : List ℕ) → text_ok s ≡ true → length s ≡ 32 �
 unfolding given_ok text_ok
 given-text_of s h l =
     let m : length (text_of s) ≤ length s = length-text_of s in
-    both (le-leb (length (text_of s)) 32 (omega arith)) (and_left _ _ h)
+    and_from _ _ (le-leb (length (text_of s)) 32 (omega arith)) (and_parts _ _ h).0
 
 rest-head : (b : ℕ) (s : List ℕ) (n : ℕ) (t : Bool) → eqb b 0 ≡ t
     → (text_ok s ≡ true → length s ≡ length (text_of s) + n → text_of s ++ zeros n ≡ s)
@@ -181,7 +142,7 @@ rest-head b s n true e rest h l =
 rest-head b s n false e rest h l =
     let k : length s ≡ length (text_of s) + n = omega (arith, rw (text_of-more b s e) at l) in
     let z : printable b && text_ok s ≡ true = rw (text_ok-cons b s, e) at h in
-    rw (text_of-more b s e) (ap (λ (r : List ℕ). b ∷ r) (rest (and_right (printable b) _ z) k))
+    rw (text_of-more b s e) (ap (λ (r : List ℕ). b ∷ r) (rest (and_parts (printable b) _ z).1 k))
 
 -- a field is its text and then so many zeros
 rest-is : (s : List ℕ) (n : ℕ) → text_ok s ≡ true → length s ≡ length (text_of s) + n → text_of s ++ zeros n ≡ s
@@ -207,33 +168,6 @@ pub plain_text-bytes : (s : List ℕ) → plain_text s ≡ true → (i : ℕ) �
 plain_text-bytes s h i = omega (arith, plain_text-low s h i)
 
 -- Validation's step
-
--- a test and its negation the other way round
-turned : (a b : ℕ) (t : Bool) → leb a b ≡ t → ltb b a ≡ not t
-turned a b true e = le-ltb b a (leb-true a b e)
-turned a b false e = lt-ltb b a (leb-false a b e)
-
-fault-bool : (p z l h : Bool) → bool_byte ((p && not z) || (not z && (not l || not h))) ≡ cond (not z && (p || not (l && h))) 1 0
-fault-bool true true l h = refl
-fault-bool false true l h = refl
-fault-bool true false l h = refl
-fault-bool false false true true = refl
-fault-bool false false true false = refl
-fault-bool false false false h = refl
-
-fault-low : (t : Bool) → cond t 1 0 ≤ 1
-fault-low true = omega arith
-fault-low false = omega arith
-
--- the code's tests come to the definition's
-pub step-fault-is : (prev b r : ℕ)
-    → r ≡ bool_byte ((eqb prev 0 && not (eqb b 0)) || (not (eqb b 0) && (ltb b 32 || ltb 126 b)))
-    → (r ≡ step_fault prev b) × (r ≤ 1)
-unfolding step_fault fault_after printable
-step-fault-is prev b r e =
-    let q : r ≡ step_fault prev b =
-    e ∙ rw (turned 32 b (leb 32 b) refl, turned b 126 (leb b 126) refl) (fault-bool (eqb prev 0) (eqb b 0) (leb 32 b) (leb b 126)) in
-    (q, rw q (fault-low (fault_after prev b)))
 
 step-bool : (p z q x y : Bool) → cond p (z && x) (cond z x (q && y)) ≡ cond (not z && (p || not q)) false (cond z x y)
 step-bool true true true x y = refl
@@ -286,17 +220,3 @@ scan-end s i faults prev h inv = sym (inv ∙ rw (drop_of_length-le s {i = i} h,
     at : (t : Bool) → cond t true false ≡ t
     at true = refl
     at false = refl
-
--- ---- how long a field's text is, counted from the front
-
-pub text-more : (s : List ℕ) (i : ℕ) → i < length s → (get_or s i 0 ≡ 0 → ⊥) → length (text_of (drop i s)) ≡ suc (length (text_of (drop (suc i) s)))
-unfolding text_of
-text-more s i h z = rw (drop-cons s i 0 h, ne_eqb (get_or s i 0) 0 z)
-
-pub text-stop : (s : List ℕ) (i : ℕ) → i < length s → get_or s i 0 ≡ 0 → length (text_of (drop i s)) ≡ 0
-unfolding text_of
-text-stop s i h z = rw (drop-cons s i 0 h, eq-eqb (get_or s i 0) 0 z)
-
-pub text-end : (s : List ℕ) (i : ℕ) → length s ≤ i → length (text_of (drop i s)) ≡ 0
-unfolding text_of
-text-end s i h = rw (drop_of_length-le s h)

@@ -7,9 +7,11 @@ ghost use Rattle.text.specs.Text.{text_ok, text_of, given_ok, plain_text};
 ghost use Rattle.fields.specs.Rule.{field};
 ghost use Rattle.text.specs.Scan.{step_fault};
 
-use fields::rule::Validity;
+use fields::rule::unless;
+use format::refusals::{Reason, Refusal};
 
 // 1 where byte b may not follow prev in a text field, else 0. No branch, so that the loop over a field vectorises.
+#[tactic(auto, unfolding(crate::specs::Scan::step_fault, crate::specs::Scan::fault_after, crate::specs::Text::printable))]
 fn step_fault(prev: u8, b: u8) -> u8
     ensures { (result ≡ step_fault prev b) × (result ≤ 1) }
 {
@@ -25,25 +27,26 @@ pub fn text_ok(s: &[u8]) -> bool
 {
     let mut faults = 0u8;
     let mut prev = 32u8;
-    let mut i = 0;
-    while i < 32 {
-        let b = s[i];
-        faults += step_fault(prev, b);
-        prev = b;
-        i += 1;
+    for b in &s[..32] {
+        faults += step_fault(prev, *b);
+        prev = *b;
     }
     faults == 0
 }
 
 // The text field at k of a record s that starts at base.
-pub fn text_field(s: &[u8], base: usize, k: usize) -> Validity
+#[tactic(auto, unfolding(fields::specs::Rule::field_of))]
+pub fn text_field(s: &[u8], base: usize, k: usize) -> Result<(), Refusal>
     requires { (base < 2 ^ 62) × (k < 2 ^ 32) }
-    ensures { result ≡ field s.now base k 32 5 (text_ok (part s.now k 32)) }
+    ensures { result ≡ field s.now base k 32 Reason.Text (text_ok (part s.now k 32)) }
 {
     if k + 32 <= s.len() {
-        fields::rule::unless(text_ok(&s[k..k + 32]), format::refusals::TEXT, base + k)
+        unless(text_ok(&s[k..k + 32]), Reason::Text, base + k)
     } else {
-        Validity::Refused(format::refusals::CUT, base + k)
+        Err(Refusal {
+            reason: Reason::Cut,
+            place: base + k,
+        })
     }
 }
 
@@ -51,36 +54,20 @@ pub fn text_field(s: &[u8], base: usize, k: usize) -> Validity
 fn plain_text(s: &[u8]) -> bool
     ensures { result ≡ plain_text s.now }
 {
-    let mut i = 0;
-    while i < s.len() {
-        if s[i] < 32 || 126 < s[i] {
-            return false;
-        }
-        i += 1;
-    }
-    true
+    s.iter().all(|b| (32..=126).contains(b))
 }
 
 // Whether a writer may take this text.
+#[tactic(auto, unfolding(crate::specs::Text::given_ok))]
 pub fn given_ok(s: &[u8]) -> bool
     ensures { result ≡ given_ok s.now }
 {
-    if 32 < s.len() {
-        return false;
-    }
-    plain_text(s)
+    s.len() <= 32 && plain_text(s)
 }
 
 // How long the text of a field is: what stands before its first zero.
 pub fn text_length(s: &[u8]) -> usize
     ensures { result ≡ length (text_of s.now) }
 {
-    let mut i = 0;
-    while i < s.len() {
-        if s[i] == 0 {
-            return i;
-        }
-        i += 1;
-    }
-    i
+    s.iter().position(|b| *b == 0).unwrap_or(s.len())
 }

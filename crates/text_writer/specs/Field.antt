@@ -1,14 +1,14 @@
--- A text written as its field of 32 bytes (document 01, "The file"): 25, then the text's own rule. An addition to document 01, which has writers of
+-- A text written as its field of 32 bytes (document 01, "The file"): a buffer that is too short, then the text's own rule. An addition to document 01, which has writers of
 -- whole records only (docs/DECISIONS.md).
 use Rattle.std.specs.Prelude.{ℕ, List, length, leb}
 use Rattle.text.specs.Text.{given_ok, padded}
-use Rattle.fields.specs.Rule.{◌then◌, unless, written}
-use Rattle.fields.specs.declared.rule.Validity.{Validity}
+use Rattle.fields.specs.Rule.{◌then◌, unless, written, Validity}
+use Rattle.format.specs.declared.refusals.Reason.TheVariants as reason
 
 unfoldable pub text_write_rule : ℕ → List ℕ → Validity
 text_write_rule size text =
-    unless (leb 32 size) 25 0
-    then unless (given_ok text) 5 0
+    unless (leb 32 size) reason.ShortBuffer 0
+    then unless (given_ok text) reason.Text 0
 
 -- the later contents of the buffer
 unfoldable pub text_written : List ℕ → List ℕ → List ℕ

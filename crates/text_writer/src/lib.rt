@@ -1,4 +1,4 @@
-// A text to its field of 32 bytes: 25, then the text; a refusal changes nothing.
+// A text to its field of 32 bytes: a buffer that is too short, then the text; a refusal changes nothing.
 #![tactic(auto)]
 
 ghost use Rattle.std.specs.Prelude.{◌≡◌, true, length};
@@ -6,17 +6,18 @@ ghost use Rattle.text.specs.Text.{given_ok, padded};
 ghost use Rattle.text_writer.specs.Field.{text_write_rule, text_written};
 
 use fields::put::put;
-use fields::rule::{Validity, first, unless};
-use format::refusals::{SHORT_BUFFER, TEXT};
+use fields::rule::unless;
+use format::refusals::{Reason, Refusal};
 use format::sizes::TEXT_SIZE;
 use text::given_ok;
 
 // What the writer refuses of this text and a buffer of so many bytes.
-fn validate(size: usize, text: &[u8]) -> Validity
+#[tactic(auto, unfolding(crate::specs::Field::text_write_rule), using(fields::proofs::Laws::ok_then, fields::proofs::Laws::err_then))]
+fn validate(size: usize, text: &[u8]) -> Result<(), Refusal>
     ensures { result ≡ text_write_rule size text.now }
 {
-    let short = unless(TEXT_SIZE <= size, SHORT_BUFFER, 0);
-    first(short, unless(given_ok(text), TEXT, 0))
+    unless(TEXT_SIZE <= size, Reason::ShortBuffer, 0)?;
+    unless(given_ok(text), Reason::Text, 0)
 }
 
 // The field, from zeros, so that the padding comes out zero.
@@ -30,16 +31,12 @@ fn field_bytes(text: &[u8]) -> [u8; TEXT_SIZE]
 }
 
 // Writes a text's field over the beginning of a buffer.
-pub fn write(out: &mut [u8], text: &[u8]) -> Validity
+#[tactic(auto, unfolding(crate::specs::Field::text_written), using(fields::proofs::Laws::written_ok, fields::proofs::Laws::written_err, crate::proofs::Laws::rule_room, crate::proofs::Laws::rule_given, crate::proofs::Laws::field_fits))]
+pub fn write(out: &mut [u8], text: &[u8]) -> Result<(), Refusal>
     ensures { (result ≡ text_write_rule (length out.old) text.now) × (out.new ≡ text_written out.old text.now) }
 {
-    let validity = validate(out.len(), text);
-    match validity {
-        Validity::Valid => {
-            let r = field_bytes(text);
-            put(out, 0, &r);
-            Validity::Valid
-        }
-        Validity::Refused(n, p) => Validity::Refused(n, p),
-    }
+    validate(out.len(), text)?;
+    let r = field_bytes(text);
+    put(out, 0, &r);
+    Ok(())
 }

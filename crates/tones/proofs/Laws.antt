@@ -1,22 +1,25 @@
 -- Tones: the byte and the tone undo each other, and the table's two readings do. What the table holds is used by one test alone,
 -- which antt computes at its 50 entries. Assumes nothing.
-use mathlib.Core.Path.{◌≡◌, refl, ap}
-use mathlib.Core.Bool.{Bool, true, false, ◌&&◌, cond, false≢true}
-use mathlib.Core.List.{List, [], ◌∷◌}
-use Prim.Native.Nat.{ℕ, zero, suc, ◌+◌, ◌-◌, ◌%◌, ◌<◌, ◌≤◌}
-use native.Mathlib.Nat.{add-zero, zero-add, add-suc, suc-add, le_of_suc-le-suc, not-suc-le-zero}
-use native.Mathlib.Numerals.{add-one}
+use mathlib.Core.Path.{◌≡◌, refl, ap, sym, ◌∙◌}
+use mathlib.Core.Bool.{Bool, true, false, false≢true}
+use mathlib.Core.List.{List}
+use Prim.Native.Nat.{ℕ, ◌+◌, ◌%◌, ◌<◌, ◌≤◌}
+use native.Mathlib.Nat.{zero-add}
 use native.Mathlib.Omega.{arith}
-use lib.Bits.{bit_or, or_shifted}
 use lib.Dec.{leb, eqb}
-use lib.ListN.{length, drop, get_or, drop_of_length-le}
-use lib.Seq.{drop-cons}
-use borrow.Author.Tests.{ltb-true, leb-true, leb-false, eqb-true, lt-ltb, le-leb, lt-leb, eq-eqb, ne_eqb}
+use lib.ListN.{length, get_or}
+use borrow.Author.Tests.{ltb-true, leb-true, leb-false, eqb-true, lt-ltb, le-leb, lt-leb}
+use Rattle.std.proofs.Common.{Option, Some, None}
+use Rattle.std.proofs.lemmas.Bool.{true_from_ne_false}
+use Rattle.std.proofs.lemmas.Iterator.Adapters.{position_from-zero}
+use Rattle.std.proofs.lemmas.List.Folds.{list_all_at}
+use Rattle.std.proofs.lemmas.List.FromFn.{length-range_with_len, get_or-range_with_len}
+use Rattle.std.proofs.lemmas.List.Sums.{passes_at_first}
+use Rattle.std.proofs.lemmas.Option.{cond_some}
+use Rattle.std.specs.List.{list_all, range_with_len, position_from, position_or_len}
 use Rattle.tones.specs.declared.Tone.{Tone}
 use Rattle.tones.specs.declared.Tone.TheVariants.{Enabled, Disabled}
-use Rattle.tones.specs.declared.ToneIndex.{ToneIndex}
-use Rattle.tones.specs.declared.ToneIndex.TheVariants.{Index, NoIndex}
-use Rattle.tones.specs.Tone.{tone_table, tone_ok, tone_of, tone_index, tone_byte, tone_valid, index_from, index_of}
+use Rattle.tones.specs.Tone.{tone_table, tone_ok, tone_of, tone_index, tone_byte, tone_valid, index_of}
 
 -- ---- a tone byte
 
@@ -70,91 +73,36 @@ unfolding tone_byte tone_index
 tone_byte-lt (Enabled i) g = omega (arith, tone-index (Enabled i) g)
 tone_byte-lt (Disabled i) g = omega (arith, tone-index (Disabled i) g)
 
--- what the code makes of each kind
-pub enabled-byte : (t : Tone) (i : ℕ) → t ≡ Enabled i → tone_valid t ≡ true → bit_or 128 i ≡ tone_byte t
-unfolding tone_byte tone_index
-enabled-byte t i e g =
-    let l : i < 50 = tone-index (Enabled i) (rw e at g) in
-    rw e (or_shifted 1 7 i (omega arith))
-
 -- ---- the table
 
--- one iteration of the search: the entry at i is the one sought, or the search goes on behind it
-module _ (s : List ℕ) (x i : ℕ) (h : i < length s) where
-  pub search-hit : get_or s i 0 ≡ x → index_from i (drop i s) x ≡ Index i
-  unfolding index_from
-  search-hit e = rw (drop-cons s i 0 h, eq-eqb (get_or s i 0) x e)
-
-  pub search-on : (get_or s i 0 ≡ x → ⊥) → index_from i (drop i s) x ≡ index_from (i + 1) (drop (i + 1) s) x
-  unfolding index_from
-  search-on n = rw (add-one, drop-cons s i 0 h, ne_eqb (get_or s i 0) x n)
-
-pub search-over : (s : List ℕ) (x i : ℕ) → length s ≤ i → index_from i (drop i s) x ≡ NoIndex
-unfolding index_from
-search-over s x i h = rw (drop_of_length-le s h)
-
--- the test f passes at each entry of a list and its place, counted from i
-abbrev every : (ℕ → ℕ → Bool) → ℕ → List ℕ → Bool
-every f i [] = true
-every f i (x ∷ s) = f i x && every f (suc i) s
-
-and_left : (a b : Bool) → a && b ≡ true → a ≡ true
-and_left true b h = refl
-and_left false b h = h
-
-and_right : (a b : Bool) → a && b ≡ true → b ≡ true
-and_right true b h = h
-and_right false b h = absurd (false≢true h)
-
-every-at : (f : ℕ → ℕ → Bool) (s : List ℕ) (i : ℕ) → every f i s ≡ true → (k : ℕ) → k < length s → f (i + k) (get_or s k 0) ≡ true
-every-at f [] i t k h = absurd (not-suc-le-zero h)
-every-at f (x ∷ s) i t zero h = rw (add-zero i) (and_left (f i x) (every f (suc i) s) t)
-every-at f (x ∷ s) i t (suc k) h =
-    rw (add-suc i k, ← (suc-add i k)) (every-at f s (suc i) (and_right (f i x) (every f (suc i) s) t) k (le_of_suc-le-suc h))
+-- a test that passes up to n, computed at each
+below_all : (p : ℕ → Bool) (n i : ℕ) → list_all p (range_with_len 0 n) ≡ true → i < n → p i ≡ true
+below_all p n i all h =
+    let l : i < length (range_with_len 0 n) = rw (length-range_with_len 0 n) h in
+    let e : get_or (range_with_len 0 n) i 0 ≡ i = get_or-range_with_len 0 n i 0 h ∙ zero-add i in
+    true_from_ne_false (p i) (λ f. false≢true (sym (list_all_at p (range_with_len 0 n) i 0 l (rw e f)) ∙ all))
 
 -- an entry is found at its own place
-abbrev is_index : ℕ → ToneIndex → Bool
-is_index i (Index j) = eqb j i
-is_index i NoIndex = false
+abbrev is_some_of : ℕ → Option ℕ → Bool
+is_some_of i (Some j) = eqb j i
+is_some_of i None = false
 
-is-index : (i : ℕ) (f : ToneIndex) → is_index i f ≡ true → f ≡ Index i
-is-index i (Index j) t = ap Index (eqb-true j i t)
-is-index i NoIndex t = absurd (false≢true t)
+some-of : (i : ℕ) (o : Option ℕ) → is_some_of i o ≡ true → o ≡ Some i
+some-of i (Some j) t = ap Some (eqb-true j i t)
+some-of i None t = absurd (false≢true t)
 
-abbrev at_its_place : ℕ → ℕ → Bool
-at_its_place i x = is_index i (index_of x)
-
-pub index-returns : (i : ℕ) → i < 50 → index_of (get_or tone_table i 0) ≡ Index i
-unfolding tone_table index_of index_from
-index-returns i h = is-index i _ (rw zero-add at (every-at at_its_place tone_table 0 refl i h))
-
--- what is found is in the table: behind i, at the place that is answered
-record Found (s : List ℕ) (i x j : ℕ) : Type 0 where
-  from : i ≤ j
-  inside : j - i < length s
-  same : get_or s (j - i) 0 ≡ x
-
-found-step : (t : ℕ) (s : List ℕ) (i x j : ℕ) (b : Bool) → eqb t x ≡ b
-    → cond b (Index i) (index_from (suc i) s x) ≡ Index j
-    → (index_from (suc i) s x ≡ Index j → Found s (suc i) x j)
-    → Found (t ∷ s) i x j
-found-step t s i x j true q e f =
-    let same : i ≡ j = cc in
-    let z : j - i ≡ 0 = omega arith in
-    record { from = omega arith; inside = omega arith; same = rw z (eqb-true t x q) }
-found-step t s i x j false q e f =
-    let r : Found s (suc i) x j = f e in
-    let z : j - i ≡ suc (j - suc i) = omega arith in
-    record { from = omega arith; inside = omega arith; same = rw z r.same }
-
-found : (s : List ℕ) (i x j : ℕ) → index_from i s x ≡ Index j → Found s i x j
-unfolding index_from
-found [] i x j e = let z : ◌≡◌ {A = ℕ} 0 1 = cc in absurd (omega arith)
-found (t ∷ s) i x j e = found-step t s i x j (eqb t x) refl e (found s (suc i) x j)
-
-pub index-found : (x i : ℕ) → index_of x ≡ Index i → (get_or tone_table i 0 ≡ x) × (i < 50)
+pub index-returns : (i : ℕ) → i < 50 → index_of (get_or tone_table i 0) ≡ Some i
 unfolding tone_table index_of
-index-found x i e =
-    let f : Found tone_table 0 x i = found tone_table 0 x i e in
-    let z : i - 0 ≡ i = omega arith in
-    (rw z at f.same, rw z at f.inside)
+index-returns i h = some-of i _ (below_all (λ k. is_some_of k (index_of (get_or tone_table k 0))) 50 i refl h)
+
+-- what is found is in the table, at the place that is answered
+found : (s : List ℕ) (x i : ℕ) → position_from (λ t. eqb t x) 0 s ≡ Some i → (get_or s i 0 ≡ x) × (i < length s)
+found s x i e =
+    let test : ℕ → Bool = λ t. eqb t x in
+    let at = cond_some _ _ i (position_from-zero test s ∙ e) in
+    let below : position_or_len test s < length s = ltb-true _ _ at.0 in
+    (rw at.1 at (eqb-true _ x (passes_at_first test s 0 below)), rw at.1 at below)
+
+pub index-found : (x i : ℕ) → index_of x ≡ Some i → (get_or tone_table i 0 ≡ x) × (i < 50)
+unfolding tone_table index_of
+index-found x i e = found tone_table x i e

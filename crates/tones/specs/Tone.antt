@@ -1,12 +1,9 @@
 -- Tones (document 01, "The file"): the top bit of a tone byte says enabled and the other seven are the index, 0 to 49, in the table of
 -- 50 tones of source 000. A disabled tone keeps its index and the same rule.
-use Rattle.std.specs.Prelude.{ℕ, suc, ◌+◌, ◌%◌, Bool, true, false, cond, List, [], ◌∷◌, get_or, leb, ltb, eqb}
+use Rattle.std.specs.Prelude.{ℕ, ◌+◌, ◌%◌, Bool, true, false, cond, List, [], ◌∷◌, leb, ltb, eqb, Option}
+use Rattle.std.specs.List.{slice_get, position_from}
 use Rattle.tones.specs.declared.Tone.{Tone}
 use Rattle.tones.specs.declared.Tone.TheVariants.{Enabled, Disabled}
-use Rattle.tones.specs.declared.Frequency.{Frequency}
-use Rattle.tones.specs.declared.Frequency.TheVariants as frequency
-use Rattle.tones.specs.declared.ToneIndex.{ToneIndex}
-use Rattle.tones.specs.declared.ToneIndex.TheVariants as index
 
 -- the table of 50 tones, in tenths of a hertz
 unfoldable pub tone_table : List ℕ
@@ -50,13 +47,9 @@ tone_valid t = in_table (tone_index t)
 -- ---- what a tone means
 
 -- the frequency of an index, in tenths of a hertz
-unfoldable pub frequency_of : ℕ → Frequency
-frequency_of i = cond (in_table i) (frequency.Tenths (get_or tone_table i 0)) frequency.NoTone
+unfoldable pub frequency_of : ℕ → Option ℕ
+frequency_of i = slice_get tone_table i
 
--- the index of a frequency, from index i on
-unfoldable pub index_from : ℕ → List ℕ → ℕ → ToneIndex
-index_from i [] x = index.NoIndex
-index_from i (t ∷ s) x = cond (eqb t x) (index.Index i) (index_from (suc i) s x)
-
-unfoldable pub index_of : ℕ → ToneIndex
-index_of x = index_from 0 tone_table x
+-- the index of a frequency: where the table has it first
+unfoldable pub index_of : ℕ → Option ℕ
+index_of x = position_from (λ t. eqb t x) 0 tone_table

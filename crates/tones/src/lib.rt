@@ -1,28 +1,14 @@
 // CTCSS tones: the tone byte, and the table of 50 tones (document 01, "The file"; source 000).
 #![tactic(auto)]
 
-ghost use Rattle.std.specs.Prelude.{◌≡◌, true, ◌+◌, ◌<◌};
+ghost use Rattle.std.specs.Prelude.{◌≡◌, true};
 ghost use Rattle.tones.specs.Tone.{tone_ok, tone_of, tone_byte, tone_valid, tone_index, tone_enabled, tone_from, frequency_of, index_of};
 
 // A tone by its index in the table. A disabled tone keeps its index: a blank tone is Disabled(0), never Enabled(0).
-#[derive(Clone, Copy)]
+#[derive(Clone, Copy, Debug, PartialEq, Eq)]
 pub enum Tone {
     Enabled(u8),
     Disabled(u8),
-}
-
-// A tone's frequency, in tenths of a hertz.
-#[derive(Clone, Copy)]
-pub enum Frequency {
-    Tenths(u16),
-    NoTone,
-}
-
-// Where the table has a frequency.
-#[derive(Clone, Copy)]
-pub enum ToneIndex {
-    Index(u8),
-    NoIndex,
 }
 
 // The frequencies in tenths of a hertz, by index.
@@ -33,12 +19,14 @@ const TONES: [u16; 50] = [
 ];
 
 // Whether a tone byte's index is in the table, enabled or not.
+#[tactic(auto, unfolding(crate::specs::Tone::tone_ok))]
 pub fn tone_ok(b: u8) -> bool
     ensures { result ≡ tone_ok b }
 {
     b & 127 < 50
 }
 
+#[tactic(auto, unfolding(crate::specs::Tone::tone_of))]
 pub fn tone_of(b: u8) -> Tone
     ensures { result ≡ tone_of b }
 {
@@ -50,6 +38,7 @@ pub fn tone_of(b: u8) -> Tone
     }
 }
 
+#[tactic(auto, unfolding(crate::specs::Tone::tone_byte, crate::specs::Tone::tone_valid, crate::specs::Tone::tone_index))]
 pub fn tone_byte(t: Tone) -> u8
     requires { tone_valid t ≡ true }
     ensures { result ≡ tone_byte t }
@@ -60,32 +49,29 @@ pub fn tone_byte(t: Tone) -> u8
     }
 }
 
+#[tactic(auto, unfolding(crate::specs::Tone::tone_valid, crate::specs::Tone::tone_index))]
 pub fn tone_valid(t: Tone) -> bool
     ensures { result ≡ tone_valid t }
 {
     match t {
-        Tone::Enabled(i) => i < 50,
-        Tone::Disabled(i) => i < 50,
+        Tone::Enabled(i) | Tone::Disabled(i) => i < 50,
     }
 }
 
 // A tone's index, enabled or not.
+#[tactic(auto, unfolding(crate::specs::Tone::tone_index))]
 pub fn index_in(t: Tone) -> u8
     ensures { result ≡ tone_index t }
 {
     match t {
-        Tone::Enabled(i) => i,
-        Tone::Disabled(i) => i,
+        Tone::Enabled(i) | Tone::Disabled(i) => i,
     }
 }
 
 pub fn is_enabled(t: Tone) -> bool
     ensures { result ≡ tone_enabled t }
 {
-    match t {
-        Tone::Enabled(_) => true,
-        Tone::Disabled(_) => false,
-    }
+    matches!(t, Tone::Enabled(_))
 }
 
 // A tone from its index and whether it is enabled.
@@ -99,27 +85,17 @@ pub fn tone_from(i: u8, enabled: bool) -> Tone
     }
 }
 
-// The frequency of an index.
-pub fn frequency_of(index: u8) -> Frequency
+// The frequency of an index, in tenths of a hertz.
+pub fn frequency_of(index: u8) -> Option<u16>
     ensures { result ≡ frequency_of index }
 {
-    if index < 50 {
-        Frequency::Tenths(TONES[index as usize])
-    } else {
-        Frequency::NoTone
-    }
+    TONES.get(index as usize).copied()
 }
 
-// The index of a frequency.
-pub fn index_of(tenths: u16) -> ToneIndex
+// The index of a frequency, given in tenths of a hertz.
+pub fn index_of(tenths: u16) -> Option<u8>
     ensures { result ≡ index_of tenths }
 {
-    let mut i = 0u8;
-    while i < 50 {
-        if TONES[i as usize] == tenths {
-            return ToneIndex::Index(i);
-        }
-        i += 1;
-    }
-    ToneIndex::NoIndex
+    let i = TONES.iter().position(|t| *t == tenths)?;
+    Some(i as u8)
 }

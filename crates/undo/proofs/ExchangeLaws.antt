@@ -1,15 +1,13 @@
 -- Laws of an exchange that can be taken back: bytes of a history put into a room, and those that leave put into the history or behind.
 use Prim.Native.Nat.{ℕ, ◌+◌, ◌-◌, ◌≤◌, ◌<◌}
 use mathlib.Core.Path.{◌≡◌, refl, ap, sym, ◌∙◌}
-use mathlib.Core.Bool.{true, false, true≢false}
+use mathlib.Core.Bool.{Bool, true, false, true≢false}
 use mathlib.Core.List.{List, ◌++◌, append_assoc}
 use native.Mathlib.Omega.{arith}
 use lib.ListN.{length, take, drop, length-append, length-drop, take-append-drop}
 use lib.Seq.{drop-drop, length-take-le}
 use Rattle.fields.specs.Bytes.{part, over, zeros}
-use Rattle.fields.specs.Rule.{is_valid}
-use Rattle.fields.specs.declared.rule.Validity.{Validity}
-use Rattle.fields.specs.declared.rule.Validity.TheVariants.{Valid, Refused}
+use Rattle.fields.specs.Rule.{is_valid, Validity}
 use Rattle.fields.proofs.Laws.{length_part, length_over, length-zeros, part-over, drop-over}
 use Rattle.m17.specs.declared.Edition.{Edition}
 use Rattle.file_rule.specs.File.{file_rule}
@@ -19,6 +17,8 @@ use Rattle.rotation.specs.Rotation.{rotated}
 use Rattle.buffers.proofs.Laws.{spliced-whole, spliced-of, take-over-before}
 use Rattle.rotation.proofs.RotationLaws.{cut-three, cut-four, over-mid, rotated-mid, length-rotated}
 use Rattle.undo.specs.Undo.{Tried}
+use Rattle.std.specs.Prelude.{Ok, Err}
+use Rattle.std.specs.Result.{is_ok}
 
 -- ---- a swap and a rotation taken back
 
@@ -148,13 +148,14 @@ content-is : (d x o : List ℕ) (len p k n : ℕ) → x ≡ spliced d len p k o 
 unfolding cut
 content-is d x o len p k n e f a h g = rw (e, f) (spliced-of d len p k o a h g (take len d) refl)
 
-valid-is : (ed : Edition) (v : Validity) (s t : List ℕ) → v ≡ file_rule ed s → s ≡ t → v ≡ Valid → true ≡ is_valid (file_rule ed t)
+-- what the test of a validity says of the bytes that were validated
+ok-is : (v : Validity) (t : Bool) → is_ok v ≡ t → t ≡ is_valid v
 unfolding is_valid
-valid-is ed v s t e f g = let h : file_rule ed t ≡ Valid = ap (file_rule ed) (sym f) ∙ sym e ∙ g in rw h
+ok-is (Ok u) t e = sym e
+ok-is (Err x) t e = sym e
 
-bad-is : (ed : Edition) (v : Validity) (s t : List ℕ) (a b : ℕ) → v ≡ file_rule ed s → s ≡ t → v ≡ Refused a b → false ≡ is_valid (file_rule ed t)
-unfolding is_valid
-bad-is ed v s t a b e f g = let h : file_rule ed t ≡ Refused a b = ap (file_rule ed) (sym f) ∙ sym e ∙ g in rw h
+validated-is : (ed : Edition) (v : Validity) (s t : List ℕ) (b : Bool) → v ≡ file_rule ed s → s ≡ t → is_ok v ≡ b → b ≡ is_valid (file_rule ed t)
+validated-is ed v s t b e f g = ok-is v b g ∙ ap is_valid (e ∙ ap (file_rule ed) f)
 
 -- ---- the exchange, validated: x is the room after the first step, y after the second, z the history after the swap
 
@@ -164,21 +165,21 @@ module _ (d h x y z : List ℕ) (len p k body m : ℕ) (v : Validity) (inside : 
   taken-length = length_part h body m stored
 
   tried-valid : (ed : Edition) (w s : List ℕ) (i : ℕ) (r : List ℕ) → w ≡ spliced d len p k (part h body m) → v ≡ file_rule ed s
-      → s ≡ cut (take len d) p k (part h body m) → v ≡ Valid → z ≡ over h body (part r i m) → i + m ≤ length r
+      → s ≡ cut (take len d) p k (part h body m) → is_ok v ≡ true → z ≡ over h body (part r i m) → i + m ≤ length r
       → Tried ed d len p k h body m true w z
   tried-valid ed w s i r e f c g j l =
       record {
-        validated = valid-is ed v s (cut (take len d) p k (part h body m)) f c g;
+        validated = validated-is ed v s (cut (take len d) p k (part h body m)) true f c g;
         room-is = e;
         behind-is = swap-behind z h r i body m j l stored;
         kept = λ n. absurd (true≢false n);
       }
 
-  tried-bad : (ed : Edition) (w s u : List ℕ) (a b : ℕ) → w ≡ d → u ≡ h → v ≡ file_rule ed s → s ≡ cut (take len d) p k (part h body m) → v ≡ Refused a b
+  tried-bad : (ed : Edition) (w s u : List ℕ) → w ≡ d → u ≡ h → v ≡ file_rule ed s → s ≡ cut (take len d) p k (part h body m) → is_ok v ≡ false
       → Tried ed d len p k h body m false w u
-  tried-bad ed w s u a b e f g c j =
+  tried-bad ed w s u e f g c j =
       record {
-        validated = bad-is ed v s (cut (take len d) p k (part h body m)) a b g c j;
+        validated = validated-is ed v s (cut (take len d) p k (part h body m)) false g c j;
         room-is = e;
         behind-is = rw f;
         kept = λ n. f;
@@ -201,15 +202,15 @@ module _ (d h x y z : List ℕ) (len p k body m : ℕ) (v : Validity) (inside : 
         let l = taken-length in
         content-is d y (part h body m) len p k (len + (m - k)) longer-room (omega arith) inside held (omega arith)
 
-    pub longer-valid : v ≡ Valid → Tried ed d len p k h body m true y z
+    pub longer-valid : is_ok v ≡ true → Tried ed d len p k h body m true y z
     longer-valid g =
         let l = longer-size in
         tried-valid ed y (take (len + (m - k)) y) p x longer-room j longer-content g f.1 (omega arith)
 
     -- both taken back: y₁ and z₁ are the buffers after the second swap, w the room after the second rotation
-    pub longer-bad : (y₁ z₁ w : List ℕ) (a b : ℕ) → v ≡ Refused a b → (y₁ ≡ over y p (part z body m)) × (z₁ ≡ over z body (part y p m))
+    pub longer-bad : (y₁ z₁ w : List ℕ) → is_ok v ≡ false → (y₁ ≡ over y p (part z body m)) × (z₁ ≡ over z body (part y p m))
         → w ≡ rotated y₁ (p + k) (len - (p + k) + (m - k)) (m - k) → Tried ed d len p k h body m false w z₁
-    longer-bad y₁ z₁ w a b g q t =
+    longer-bad y₁ z₁ w g q t =
         let l = longer-size in
         let y-is : y₁ ≡ x = q.0 ∙ swap-back x y h z p body m f.0 f.1 (omega arith) stored in
         let z-is : z₁ ≡ h = q.1 ∙ swap-back h z x y body p m f.1 f.0 stored (omega arith) in
@@ -217,7 +218,7 @@ module _ (d h x y z : List ℕ) (len p k body m : ℕ) (v : Validity) (inside : 
         t
         ∙ rotate-back d y₁ (p + k) (len - (p + k) + (m - k)) (len - (p + k)) (m - k) (y-is ∙ e) (omega arith) (omega arith)
         in
-        tried-bad ed w (take (len + (m - k)) y) z₁ a b w-is z-is j longer-content g
+        tried-bad ed w (take (len + (m - k)) y) z₁ w-is z-is j longer-content g
 
   -- fewer bytes come than leave: swapped, then rotated
   module _ (ed : Edition) (less : m < k) (e : (x ≡ over d p (part h body m)) × (z ≡ over h body (part d p m)))
@@ -244,15 +245,15 @@ module _ (d h x y z : List ℕ) (len p k body m : ℕ) (v : Validity) (inside : 
         ∙ content-is d (over y (len - (k - m)) (zeros (k - m))) (part h body m) len p k (len - (k - m)) shorter-room (omega arith) inside held
         (omega arith)
 
-    pub shorter-valid : (w : List ℕ) → v ≡ Valid → w ≡ over y (len - (k - m)) (zeros (k - m)) → Tried ed d len p k h body m true w z
+    pub shorter-valid : (w : List ℕ) → is_ok v ≡ true → w ≡ over y (len - (k - m)) (zeros (k - m)) → Tried ed d len p k h body m true w z
     shorter-valid w g t =
         tried-valid ed w (take (len - (k - m)) y) p d (t ∙ shorter-room) j shorter-content g e.1 (omega arith)
 
-    pub shorter-bad : (y₁ z₁ w : List ℕ) (a b : ℕ) → v ≡ Refused a b → y₁ ≡ rotated y (p + m) (k - m + (len - (p + k))) (len - (p + k))
+    pub shorter-bad : (y₁ z₁ w : List ℕ) → is_ok v ≡ false → y₁ ≡ rotated y (p + m) (k - m + (len - (p + k))) (len - (p + k))
         → (w ≡ over y₁ p (part z body m)) × (z₁ ≡ over z body (part y₁ p m)) → Tried ed d len p k h body m false w z₁
-    shorter-bad y₁ z₁ w a b g t q =
+    shorter-bad y₁ z₁ w g t q =
         let l = shorter-size in
         let y-is : y₁ ≡ x = t ∙ rotate-back x y (p + m) (k - m + (len - (p + k))) (k - m) (len - (p + k)) f (omega arith) (omega arith) in
         let w-is : w ≡ d = q.0 ∙ rw y-is (swap-back d x h z p body m e.0 e.1 (omega arith) stored) in
         let z-is : z₁ ≡ h = q.1 ∙ rw y-is (swap-back h z d x body p m e.1 e.0 stored (omega arith)) in
-        tried-bad ed w (take (len - (k - m)) y) z₁ a b w-is z-is j shorter-content g
+        tried-bad ed w (take (len - (k - m)) y) z₁ w-is z-is j shorter-content g

@@ -10,9 +10,7 @@ use lib.Seq.{drop-drop, length-take-le, take_all}
 use lib.Dec.{leb}
 use borrow.Author.Tests.{le-leb, lt-leb, leb-true}
 use Rattle.fields.specs.Bytes.{part, over, zeros}
-use Rattle.fields.specs.Rule.{◌then◌, unless, is_valid}
-use Rattle.fields.specs.declared.rule.Validity.{Validity}
-use Rattle.fields.specs.declared.rule.Validity.TheVariants.{Valid, Refused}
+use Rattle.fields.specs.Rule.{◌then◌, unless, is_valid, Validity, Valid, Refused}
 use Rattle.fields.proofs.Laws.{AllBytes, bytes_take, bytes_drop, length_part, length-zeros, part-part, over-over, over_zero}
 use Rattle.m17.specs.declared.Edition.{Edition}
 use Rattle.file_rule.specs.File.{file_rule}
@@ -23,16 +21,17 @@ use Rattle.journal.specs.Entry.{Entry, Entries, whole, broken, entries_of, front
 use Rattle.journal.specs.History.{number_of_entries}
 use Rattle.journal.specs.Change.{revert}
 use Rattle.journal.specs.Machine.{holding, file_of, entry_list, history_of, entry_fits, buffers_rule, refused, done, top_rule, undo_rule, revert_top, without_top, undo_outcome, undo_step}
-use Rattle.journal.specs.declared.answer.Answer.TheVariants as answer
 use Rattle.journal.specs.declared.scan.EntryHead.{EntryHead}
-use Rattle.journal.specs.declared.scan.HistoryRead.{HistoryRead}
-use Rattle.journal.specs.declared.scan.HistoryRead.TheVariants as read
 use Rattle.journal.proofs.Laws.{entries_none, entries_next, entries-stop, entries-canonical}
 use Rattle.journal.proofs.ScanLaws.{HeadRead, Held, counted-held}
 use Rattle.edits.specs.Editing.{editing}
 use Rattle.preconditions.specs.Calls.{state_of, outcome_of}
 use Rattle.undo.specs.Undo.{Tried, headed, undone}
 use Rattle.preconditions.proofs.PreconditionLaws.{and_both, preconditions-inside, preconditions-entries}
+use Rattle.std.specs.Prelude.{Some, None, Option, Err}
+use Rattle.format.specs.declared.refusals.Reason.TheVariants as reason
+use Rattle.journal.specs.Answer.{done_with}
+use Rattle.format.specs.declared.refusals.Refusal.{Refusal}
 
 -- ---- the front of a content dropped
 
@@ -97,11 +96,11 @@ fits_by ed h top d len used = refl
 
 module _ (d : List ℕ) (len : ℕ) (h : List ℕ) (used : ℕ) (top : EntryHead) (entries : ℕ) where
   pub not-fitting : (ed : Edition) → entry_fits (editing ed) (headed h top) (state_of d len h used) ≡ false
-      → outcome_of (answer.Refused 39 0) d h ≡ undone ed d len h used top entries
+      → outcome_of (Refused reason.HistoryEntry 0) d h ≡ undone ed d len h used top entries
   unfolding undone refused
   not-fitting ed e = rw e
 
-  pub past-codeplug : (ed : Edition) → len < top.place + top.put → outcome_of (answer.Refused 39 0) d h ≡ undone ed d len h used top entries
+  pub past-codeplug : (ed : Edition) → len < top.place + top.put → outcome_of (Refused reason.HistoryEntry 0) d h ≡ undone ed d len h used top entries
   past-codeplug ed g = not-fitting ed (rw (fits_by ed h top d len used, lt-leb (top.place + top.put) len g))
 
   module _ (inside : top.place + top.put ≤ len) (held : len ≤ length d) (stored : top.body + top.taken ≤ length h) where
@@ -112,7 +111,7 @@ module _ (d : List ℕ) (len : ℕ) (h : List ℕ) (used : ℕ) (top : EntryHead
         ∙ length_cut d len top.place top.put (part h top.body top.taken) inside held
         ∙ rw l
 
-    pub past_room : (ed : Edition) → length d < len - top.put + top.taken → outcome_of (answer.Refused 39 0) d h ≡ undone ed d len h used top entries
+    pub past_room : (ed : Edition) → length d < len - top.put + top.taken → outcome_of (Refused reason.HistoryEntry 0) d h ≡ undone ed d len h used top entries
     past_room ed g =
         let l = result-length in
         let n : length d < length (revert (headed h top) (take len d)) = omega arith in
@@ -142,7 +141,7 @@ module _ (d : List ℕ) (len : ℕ) (h : List ℕ) (used : ℕ) (top : EntryHead
 
       -- the result is refused: both buffers are as they were
       pub refused-back : (ed : Edition) (d₁ h₁ : List ℕ) (valid : Bool) → Tried ed d len top.place top.put h top.body top.taken valid d₁ h₁ → valid ≡ false
-          → outcome_of (answer.Refused 39 0) d₁ h₁ ≡ undone ed d len h used top entries
+          → outcome_of (Refused reason.HistoryEntry 0) d₁ h₁ ≡ undone ed d len h used top entries
       refused-back ed d₁ h₁ valid t g =
           let e : d₁ ≡ d = t.room-is ∙ rw g in
           let f : h₁ ≡ h = t.kept g in
@@ -152,7 +151,7 @@ module _ (d : List ℕ) (len : ℕ) (h : List ℕ) (used : ℕ) (top : EntryHead
       pub taken_back : (ed : Edition) (d₁ h₁ h₂ : List ℕ) (valid : Bool) → Tried ed d len top.place top.put h top.body top.taken valid d₁ h₁
           → valid ≡ true → top.next ≡ top.body + top.taken → top.body + top.taken ≤ used → used ≤ length h
           → h₂ ≡ holding h₁ used (part h₁ (top.body + top.taken) (used - (top.body + top.taken)))
-          → outcome_of (answer.Done (len - top.put + top.taken) (used - (top.body + top.taken)) (entries - 1)) d₁ h₂
+          → outcome_of (done_with (len - top.put + top.taken) (used - (top.body + top.taken)) (entries - 1)) d₁ h₂
           ≡ undone ed d len h used top entries
       unfolding undone
       taken_back ed d₁ h₁ h₂ valid t g n a b i =
@@ -169,7 +168,7 @@ module _ (d : List ℕ) (len : ℕ) (h : List ℕ) (used : ℕ) (top : EntryHead
 
 -- ---- the first entry of a history
 
-pub held-read : (s : List ℕ) (n : ℕ) {r : HistoryRead} → r ≡ number_of_entries (entries_of s) → r ≡ read.Entries n → Held s n
+pub held-read : (s : List ℕ) (n : ℕ) {r : Option ℕ} → r ≡ number_of_entries (entries_of s) → r ≡ Some n → Held s n
 held-read s n e f = counted-held s n (sym e ∙ f)
 
 -- a history whose entry e comes first, then t
@@ -214,32 +213,32 @@ top-is h used top r g =
 
 -- ---- the call
 
-pub undo-refused : (ed : Edition) (d : List ℕ) (len : ℕ) (h : List ℕ) (used n p : ℕ) {v : Validity} → v ≡ buffers_rule (editing ed) (state_of d len h used) → v ≡ Refused n p
-    → outcome_of (answer.Refused n p) d h ≡ undo_step (editing ed) (state_of d len h used)
+pub undo-refused : (ed : Edition) (d : List ℕ) (len : ℕ) (h : List ℕ) (used : ℕ) (x : Refusal) {v : Validity} → v ≡ buffers_rule (editing ed) (state_of d len h used) → v ≡ Err x
+    → outcome_of (Err x) d h ≡ undo_step (editing ed) (state_of d len h used)
 unfolding undo_step undo_rule undo_outcome refused ◌then◌
-undo-refused ed d len h used n p e f = rw (sym e ∙ f)
+undo-refused ed d len h used x e f = rw (sym e ∙ f)
 
 module _ (ed : Edition) (d : List ℕ) (len : ℕ) (h : List ℕ) (used : ℕ) (fine : buffers_rule (editing ed) (state_of d len h used) ≡ Valid) where
-  pub undo-broken : {r : HistoryRead} → r ≡ number_of_entries (entries_of (take used h)) → r ≡ read.Broken
-      → outcome_of (answer.Refused 31 0) d h ≡ undo_step (editing ed) (state_of d len h used)
+  pub undo-broken : {r : Option ℕ} → r ≡ number_of_entries (entries_of (take used h)) → r ≡ None
+      → outcome_of (Refused reason.BadHistory 0) d h ≡ undo_step (editing ed) (state_of d len h used)
   unfolding history_of
   undo-broken e f = absurd (preconditions-entries ed (state_of d len h used) fine (sym e ∙ f))
 
   pub undo-none : (n : ℕ) → Held (take used h) n → front_of (take used h) ≡ none
-      → outcome_of (answer.Refused 38 0) d h ≡ undo_step (editing ed) (state_of d len h used)
+      → outcome_of (Refused reason.NoUndo 0) d h ≡ undo_step (editing ed) (state_of d len h used)
   unfolding undo_step undo_rule top_rule undo_outcome history_of entry_list refused ◌then◌
   undo-none n e f = rw (fine, e.held-is, none-held (take used h) e.held e.held-is f)
 
   told-by : (e : Entry) (rest : List Entry) (fits : Bool)
-      → undo_outcome (editing ed) (state_of d len h used) (unless fits 39 0) (e ∷ rest)
-      ≡ cond fits (done (revert e (take len d)) rest (state_of d len h used)) (refused 39 0 (state_of d len h used))
+      → undo_outcome (editing ed) (state_of d len h used) (unless fits reason.HistoryEntry 0) (e ∷ rest)
+      ≡ cond fits (done (revert e (take len d)) rest (state_of d len h used)) (refused reason.HistoryEntry 0 (state_of d len h used))
   unfolding undo_outcome revert_top without_top unless file_of
   told-by e rest true = refl
   told-by e rest false = refl
 
   undo-first : (e : Entry) (rest : List Entry) → entries_of (take used h) ≡ whole (e ∷ rest)
       → undo_step (editing ed) (state_of d len h used)
-      ≡ cond (entry_fits (editing ed) e (state_of d len h used)) (done (revert e (take len d)) rest (state_of d len h used)) (refused 39 0 (state_of d len h used))
+      ≡ cond (entry_fits (editing ed) e (state_of d len h used)) (done (revert e (take len d)) rest (state_of d len h used)) (refused reason.HistoryEntry 0 (state_of d len h used))
   unfolding undo_step undo_rule top_rule history_of entry_list ◌then◌
   undo-first e rest f = rw (fine, f) (told-by e rest (entry_fits (editing ed) e (state_of d len h used)))
 
@@ -249,7 +248,7 @@ module _ (ed : Edition) (d : List ℕ) (len : ℕ) (h : List ℕ) (used : ℕ) (
       → entry_fits (editing ed) (headed h top) (state_of d len h used) ≡ v
       → undone ed d len h used top n
       ≡ cond (entry_fits (editing ed) (headed h top) (state_of d len h used)) (done (revert (headed h top) (take len d)) rest (state_of d len h used))
-      (refused 39 0 (state_of d len h used))
+      (refused reason.HistoryEntry 0 (state_of d len h used))
   unfolding undone done
   undone-is top n rest false a b c m e = rw e
   undone-is top n rest true a b c m e =

@@ -9,10 +9,11 @@ use Rattle.buffers.specs.Splice.{spliced}
 use Rattle.journal.specs.Entry.{Entry}
 use Rattle.journal.specs.Change.{revert}
 use Rattle.journal.specs.Machine.{Outcome, holding, refused, entry_fits}
-use Rattle.journal.specs.declared.answer.Answer.TheVariants.{Done}
 use Rattle.journal.specs.declared.scan.EntryHead.{EntryHead}
 use Rattle.edits.specs.Editing.{editing}
 use Rattle.preconditions.specs.Calls.{state_of}
+use Rattle.journal.specs.Answer.{done_with}
+use Rattle.format.specs.declared.refusals.Reason.TheVariants as reason
 
 -- the m bytes at `body` of h put in place of the k bytes at p of the content of d: whether reading the result is valid, and what d and h
 -- are afterwards, as they were if not
@@ -31,8 +32,8 @@ unfoldable pub undone : Edition → List ℕ → ℕ → List ℕ → ℕ → En
 undone e room len history used top entries =
     cond (entry_fits (editing e) (headed history top) (state_of room len history used))
     (record {
-      answer = Done (len - top.put + top.taken) (used - top.next) (entries - 1);
+      answer = done_with (len - top.put + top.taken) (used - top.next) (entries - 1);
       room = holding room len (revert (headed history top) (take len room));
       history = holding history used (part history top.next (used - top.next));
     })
-    (refused 39 0 (state_of room len history used))
+    (refused reason.HistoryEntry 0 (state_of room len history used))

@@ -5,7 +5,7 @@ mod revert; // revert.rt: an entry's bytes put back, validated, and taken out ag
 
 ghost use Rattle.std.specs.Prelude.{◌≡◌, ◌+◌, ◌-◌, ◌≤◌, length};
 ghost use Rattle.fields.specs.Bytes.{part};
-ghost use Rattle.fields.specs.declared.rule.Validity.TheVariants.{Valid};
+ghost use Rattle.fields.specs.Rule.{Valid};
 ghost use Rattle.journal.specs.Machine.{holding, buffers_rule, undo_step};
 ghost use Rattle.edits.specs.Editing.{editing};
 ghost use Rattle.preconditions.specs.Calls.{state_of, outcome_of};
@@ -13,10 +13,10 @@ ghost use Rattle.undo.specs.Undo.{undone};
 
 use crate::revert::revert;
 use buffers::block::{clear, move_down};
-use fields::rule::Validity;
-use format::refusals::{BAD_HISTORY, HISTORY_ENTRY, NO_UNDO};
-use journal::answer::Answer;
-use journal::scan::{EntryHead, EntryRead, HistoryRead, history_entries, history_entry_at};
+use fields::rule::unless;
+use format::refusals::{Reason, Refusal};
+use journal::answer::Done;
+use journal::scan::{EntryHead, history_entries, history_entry_at};
 use m17::Edition;
 use preconditions::check;
 
@@ -38,7 +38,7 @@ fn take_back(
     top: EntryHead,
     entries: usize,
     edition: Edition,
-) -> Answer
+) -> Result<Done, Refusal>
     requires { ((len ≤ length room.old) × (used ≤ length history.old)) × (((top.next ≡ top.body + top.taken) × (top.next ≤ used)) × (1 ≤ entries)) }
     ensures { outcome_of result room.new history.new ≡ undone edition room.old len history.old used top entries }
 {
@@ -46,20 +46,17 @@ fn take_back(
     let k = top.put;
     let body = top.body;
     let m = top.taken;
-    if len < k {
-        return Answer::Refused(HISTORY_ENTRY, 0);
-    }
-    if len - k < p {
-        return Answer::Refused(HISTORY_ENTRY, 0);
-    }
-    if room.len() - (len - k) < m {
-        return Answer::Refused(HISTORY_ENTRY, 0);
-    }
-    if !revert(room, len, p, k, history, body, m, edition) {
-        return Answer::Refused(HISTORY_ENTRY, 0);
-    }
+    unless(k <= len, Reason::HistoryEntry, 0)?;
+    unless(p <= len - k, Reason::HistoryEntry, 0)?;
+    unless(m <= room.len() - (len - k), Reason::HistoryEntry, 0)?;
+    let fits = revert(room, len, p, k, history, body, m, edition);
+    unless(fits, Reason::HistoryEntry, 0)?;
     drop_front(history, used, body + m);
-    Answer::Done(len - k + m, used - (body + m), entries - 1)
+    Ok(Done {
+        len: len - k + m,
+        used: used - (body + m),
+        entries: entries - 1,
+    })
 }
 
 fn undo_top(
@@ -68,16 +65,18 @@ fn undo_top(
     history: &mut [u8],
     used: usize,
     edition: Edition,
-) -> Answer
+) -> Result<Done, Refusal>
     requires { buffers_rule (editing edition) (state_of room.old len history.old used) ≡ Valid }
     ensures { outcome_of result room.new history.new ≡ undo_step (editing edition) (state_of room.old len history.old used) }
 {
-    let HistoryRead::Entries(entries) = history_entries(&history[..used]) else {
-        return Answer::Refused(BAD_HISTORY, 0);
-    };
-    let EntryRead::Entry(top) = history_entry_at(&history[..used], 0) else {
-        return Answer::Refused(NO_UNDO, 0);
-    };
+    let entries = history_entries(&history[..used]).ok_or(Refusal {
+        reason: Reason::BadHistory,
+        place: 0,
+    })?;
+    let top = history_entry_at(&history[..used], 0).ok_or(Refusal {
+        reason: Reason::NoUndo,
+        place: 0,
+    })?;
     take_back(room, len, history, used, top, entries, edition)
 }
 
@@ -88,11 +87,9 @@ pub fn undo(
     history: &mut [u8],
     used: usize,
     edition: Edition,
-) -> Answer
+) -> Result<Done, Refusal>
     ensures { outcome_of result room.new history.new ≡ undo_step (editing edition) (state_of room.old len history.old used) }
 {
-    if let Validity::Refused(n, p) = check(room, len, history, used, edition) {
-        return Answer::Refused(n, p);
-    }
+    check(room, len, history, used, edition)?;
     undo_top(room, len, history, used, edition)
 }

@@ -4,7 +4,6 @@ ghost use Rattle.std.specs.Prelude.{◌+◌, ◌≤◌, ◌<◌, length};
 ghost use Rattle.undo.specs.Undo.{Tried};
 
 use buffers::block::clear;
-use fields::rule::Validity;
 use m17::Edition;
 use rotation::{rotate, swap};
 use validation::validity_of;
@@ -27,7 +26,7 @@ fn revert_longer(
     let spare = m - k;
     rotate(room, p + k, behind + spare, behind);
     swap(room, p, history, body, m);
-    if let Validity::Valid = validity_of(&room[..len + spare], edition) {
+    if validity_of(&room[..len + spare], edition).is_ok() {
         return true;
     }
     swap(room, p, history, body, m);
@@ -53,7 +52,7 @@ fn revert_shorter(
     let spare = k - m;
     swap(room, p, history, body, m);
     rotate(room, p + m, spare + behind, spare);
-    if let Validity::Valid = validity_of(&room[..len - spare], edition) {
+    if validity_of(&room[..len - spare], edition).is_ok() {
         clear(room, len - spare, spare);
         return true;
     }

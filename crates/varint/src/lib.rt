@@ -6,68 +6,62 @@ ghost use Rattle.fields.specs.Bytes.{over};
 ghost use Rattle.varint.specs.Number.{number_bytes, number_at};
 
 // A number and how many bytes it takes.
-#[derive(Clone, Copy)]
-pub enum NumberRead {
-    Number(usize, usize),
-    Broken,
+#[derive(Clone, Copy, Debug, PartialEq, Eq)]
+pub struct Number {
+    pub value: usize,
+    pub size: usize,
 }
 
 pub const MAX_NUMBER: usize = 1_048_576;
 
 // The number at place k.
-pub fn number_at(s: &[u8], k: usize) -> NumberRead
+#[tactic(auto, using(crate::proofs::CodeLaws::readings))]
+pub fn number_at(s: &[u8], k: usize) -> Option<Number>
     ensures { result ≡ number_at (drop k s.now) }
 {
-    let n = s.len();
-    if n <= k {
-        return NumberRead::Broken;
-    }
-    let a = s[k];
+    let a = *s.get(k)?;
     if a < 128 {
-        return NumberRead::Number(a as usize, 1);
+        return Some(Number {
+            value: a as usize,
+            size: 1,
+        });
     }
-    if n - k <= 1 {
-        return NumberRead::Broken;
-    }
-    let b = s[k + 1];
+    let b = *s.get(k + 1)?;
     if b < 128 {
         if b == 0 {
-            return NumberRead::Broken;
+            return None;
         }
-        return NumberRead::Number((a - 128) as usize + 128 * (b as usize), 2);
+        return Some(Number {
+            value: (a - 128) as usize + 128 * (b as usize),
+            size: 2,
+        });
     }
-    if n - k <= 2 {
-        return NumberRead::Broken;
+    let c = *s.get(k + 2)?;
+    if c == 0 || 128 <= c {
+        return None;
     }
-    let c = s[k + 2];
-    if c == 0 {
-        return NumberRead::Broken;
+    let value = (a - 128) as usize + 128 * ((b - 128) as usize + 128 * (c as usize));
+    if MAX_NUMBER < value {
+        return None;
     }
-    if 128 <= c {
-        return NumberRead::Broken;
-    }
-    let x = (a - 128) as usize + 128 * ((b - 128) as usize + 128 * (c as usize));
-    if MAX_NUMBER < x {
-        return NumberRead::Broken;
-    }
-    NumberRead::Number(x, 3)
+    Some(Number { value, size: 3 })
 }
 
 // How many bytes a number takes.
+#[tactic(auto, using(crate::proofs::Laws::sizes))]
 pub fn number_length(x: usize) -> usize
     requires { x ≤ 1048576 }
     ensures { result ≡ length (number_bytes x) }
 {
-    if x < 128 {
-        return 1;
+    match x {
+        ..128 => 1,
+        128..16_384 => 2,
+        _ => 3,
     }
-    if x < 16384 {
-        return 2;
-    }
-    3
 }
 
 // Writes a number at place k.
+#[tactic(auto, using(crate::proofs::CodeLaws::written))]
 pub fn put_number(d: &mut [u8], k: usize, x: usize)
     requires { (x ≤ 1048576) × (k + length (number_bytes x) ≤ length d.old) }
     ensures { d.new ≡ over d.old k (number_bytes x) }

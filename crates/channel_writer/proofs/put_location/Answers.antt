@@ -4,7 +4,7 @@ use native.Mathlib.Omega.{arith}
 use Rattle.fields.specs.Bytes.{little_bytes}
 use Rattle.fields.proofs.Laws.{long-byte, long-little}
 use Rattle.channel_writer.specs.Writing.{location_bytes}
-use Rattle.channel_writer.proofs.WriteLaws.{i8-passed, run-start, run-then}
+use Rattle.channel_writer.proofs.WriteLaws.{i8_passed, run-start, run-then}
 use Rattle.channel_writer.proofs.put_location.Goals as goal
 
 pub returns : goal.returns
@@ -19,4 +19,4 @@ returns c =
     let r3 = run-then r2 _ _ (long-byte _) e.put_byte-2.ensures in
     let r4 = run-then r3 _ _ (long-little 2 _) c.put_le16-2.ensures in
     let r5 = run-then r4 _ _ (long-little 2 _) c.put_le16-3.ensures in
-    r5.is ∙ rw (f.signed_byte.ensures, i8-passed _ l, e.signed_byte-2.ensures, i8-passed _ m)
+    r5.is ∙ rw (f.signed_byte.ensures, i8_passed _ l, e.signed_byte-2.ensures, i8_passed _ m)

@@ -13,12 +13,8 @@ returns-then-c-lt32 c =
     let k = c.args.c in
     (sym (elim c.then-c-lt32.branch [ then-c-lt32-via-then-c-lt32 w ↦ digit-before k (omega arith) | then-c-lt32-via-else-c-lt32+then-c-gt90 w ↦ digit-past k (omega arith) ]), search rules)
 
-pub bounds-digits-c : goal.bounds-digits-c
-bounds-digits-c c = omega (arith, ltb-false)
-
 pub returns : goal.returns
 returns c =
-    let e = c in
-    let k : 32 + (e.args.c - 32) ≡ e.args.c = omega arith in
-    let r = rw k at (e.requires.entry (e.args.c - 32) (omega (arith, ltb-false))) in
-    (r, rw r (digit-le e.args.c))
+    let k : 32 + (c.args.c - 32) ≡ c.args.c = omega arith in
+    let r = rw k at (c.requires.entry (c.args.c - 32) (omega (arith, ltb-false))) in
+    (r, rw r (digit-le c.args.c))

@@ -1,34 +1,27 @@
-use Prim.Native.Nat.{◌+◌, ◌-◌}
-use mathlib.Core.Path.{◌≡◌, refl}
-use lib.ListN.{length, drop}
-use lib.Seq.{drop-length}
-use Rattle.m17.specs.Address.{first_foreign}
-use Rattle.m17.proofs.Laws.{foreign-here, foreign_next}
-use native.Mathlib.Omega.{arith}
+-- The place of the first character with no digit, or the end.
+use Rattle.std.proofs.Common.{◌≡◌, refl, ℕ, ◌≤◌, Bool, true, false, cond, ltb, List, Some, None, length, rules, arith}
+use Rattle.std.proofs.lemmas.Bool.{ltb-false}
+use Rattle.std.proofs.lemmas.Iterator.{YieldsList-from_slice}
+use Rattle.std.proofs.lemmas.Iterator.Search.{position_from_yields_List}
+use Rattle.std.proofs.lemmas.List.Recursion.{is_position_or_len}
+use Rattle.std.proofs.lemmas.List.Sums.{prefix_len-le-length}
+use Rattle.std.specs.List.{position_or_len}
+use Rattle.std.specs.Option.{unwrap_or}
+use borrow.Author.Tests.{tests}
+use Rattle.m17.specs.Address.{first_foreign, foreign}
 use Rattle.m17_encoder.proofs.first_foreign.Goals as goal
 
-pub digit-requires : goal.digit-requires
-digit-requires c = c.digits-digits.ensures
+first : (s : List ℕ) → first_foreign s ≡ position_or_len foreign s
+unfolding first_foreign
+first s = is_position_or_len first_foreign foreign refl (λ c s. refl) s
 
-pub returns-then-digit-eq40 : goal.returns-then-digit-eq40
-returns-then-digit-eq40 c =
-    let e = c in
-    let s = e.args.s.now in
-    let h : first_foreign (drop e.loop-i.i s) ≡ 0 =
-    foreign-here s e.loop-i.i c.loop-i-test.true (omega arith) in
-    omega arith
-
-pub loop-i-preserved : goal.loop-i-preserved
-loop-i-preserved c =
-    let e = c in
-    let s = e.args.s.now in
-    let h : first_foreign (drop e.loop-i.i s) ≡ 1 + first_foreign (drop (e.loop-i.i + 1) s) =
-    foreign_next s e.loop-i.i c.loop-i-test.true (omega arith) in
-    omega arith
+or_end : (p n : ℕ) (t : Bool) → ltb p n ≡ t → p ≤ n → unwrap_or (cond t (Some p) None) n ≡ p
+or_end p n true e h = refl
+or_end p n false e h = omega (arith, ltb-false p n e)
 
 pub returns : goal.returns
+unfolding foreign
 returns c =
     let s = c.args.s.now in
-    let e : c.loop-i.i ≡ length s = omega arith in
-    let z : first_foreign (drop c.loop-i.i s) ≡ 0 = rw (e, drop-length) (unfold first_foreign in refl) in
-    omega arith
+    let f = position_from_yields_List foreign _ _ c.position.result c.position.ensures.ran (YieldsList-from_slice s cc) (λ x b q k. search (rules, tests)) in
+    rw (c.unwrap_or.ensures, f, first s) (or_end _ (length s) _ refl (prefix_len-le-length _ s))

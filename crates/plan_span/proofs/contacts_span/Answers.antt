@@ -24,12 +24,12 @@ last c =
 pub apart_span-requires : goal.apart_span-requires
 apart_span-requires c =
     let w = last (goal.at.apart_span-requires c).After-last_contact in
-    let e = c.in-At.is in
+    let e = c.in-Some.is in
     (w.fits _ e, w.inside _ e)
 
-pub returns-in-At : goal.returns-in-At
-returns-in-At c =
-    (last (goal.at.returns-in-At c).After-last_contact).span _ _ _ c.in-At.is
+pub returns-in-Some : goal.returns-in-Some
+returns-in-Some c =
+    (last (goal.at.returns-in-Some c).After-last_contact).span _ _ _ c.in-Some.is
     (c.shifted.ensures ∙ ap (shift_of _) c.le16.ensures) c.apart_span.ensures
 
 pub counted_span-requires : goal.counted_span-requires
@@ -38,8 +38,8 @@ counted_span-requires c =
 
 pub le16-requires : goal.le16-requires
 le16-requires c =
-    omega (arith, (last (goal.at.le16-requires c).After-last_contact).inside _ c.in-At.is)
+    omega (arith, (last (goal.at.le16-requires c).After-last_contact).inside _ c.in-Some.is)
 
-pub returns-in-Nowhere : goal.returns-in-Nowhere
-returns-in-Nowhere c =
-    rw ((last (goal.at.returns-in-Nowhere c).After-last_contact).none c.in-Nowhere.is) c.counted_span.ensures
+pub returns-in-None : goal.returns-in-None
+returns-in-None c =
+    rw ((last (goal.at.returns-in-None c).After-last_contact).none c.in-None.is) c.counted_span.ensures

@@ -8,7 +8,7 @@ use Rattle.renumber.specs.Moved.{offsets_moved}
 use Rattle.plan_suffix.proofs.common_suffix_offsets.Given as goal
 
 abbrev pub invariant-loop-i : goal.invariant-loop-i
-invariant-loop-i l = ((l.i ≤ l.initial.i) × (l.e ≤ length l.s)) × (common_suffix l.s (offsets_moved l.initial.i (growth_of l.growth) l.f l.start) ≡ l.e + common_suffix (take (length l.s - l.e) l.s) (offsets_moved l.i (growth_of l.growth) l.f l.start))
-
-abbrev pub decreases-loop-i : goal.decreases-loop-i
-decreases-loop-i l = l.i
+invariant-loop-i l =
+    (l.e ≤ length l.s)
+    × (common_suffix l.s (offsets_moved l.fn.t.many (growth_of l.growth) l.f l.start)
+    ≡ l.e + common_suffix (take (length l.s - l.e) l.s) (offsets_moved l.i (growth_of l.growth) l.f l.start))

@@ -2,7 +2,7 @@
 use native.Mathlib.Omega.{arith}
 use Prim.Native.Nat.{◌-◌, ◌*◌}
 use mathlib.Core.Path.{◌≡◌, sym}
-use mathlib.Core.List.{append_assoc}
+use mathlib.Core.List.{append_assoc, append-nil}
 use lib.ListN.{length, take}
 use lib.Seq.{length-take-le}
 use Rattle.affixes.specs.Common.{common_suffix}
@@ -11,7 +11,7 @@ use Rattle.renumber.proofs.Laws.{length-offsets_moved}
 use Rattle.plan_suffix.specs.Suffix.{new_offsets, counted_pieces, table_pieces}
 use Rattle.plan_suffix.proofs.SuffixLaws.{Compared, compared}
 use Rattle.plan_suffix.proofs.table_suffix.Goals as goal
-use Rattle.plan_suffix.proofs.table_suffix.Goals.{After-common_suffix3, After-common_suffix_offsets-e}
+use Rattle.plan_suffix.proofs.table_suffix.Goals.{After-common_suffix_pieces, After-common_suffix_offsets-e}
 
 offsets : (c : After-common_suffix_offsets-e)
     → (let e = c.args in
@@ -22,15 +22,15 @@ offsets c =
     compared e.s.now _ _ (new_offsets e.t e.f.now) _ _ (simp append_assoc)
     (length-offsets_moved e.t.many (growth_of e.t.growth) e.f.now e.t.start) c.common_suffix_offsets-e.ensures
 
-before : (c : After-common_suffix3)
+before : (c : After-common_suffix_pieces)
     → (let e = c.args in
-    c.common_suffix3.result
+    c.common_suffix_pieces.result
     ≡ common_suffix (take (length e.s.now - c.common_suffix_offsets-e.result) e.s.now)
     (counted_pieces e.c e.added.now e.f.now))
-before c = rw c.bytes16-n.ensures at c.common_suffix3.ensures
+before c = rw (c.bytes16-n.ensures, append-nil) at c.common_suffix_pieces.ensures
 
-pub slice_bounds-common_suffix3-length : goal.slice_bounds-common_suffix3-length
-slice_bounds-common_suffix3-length c = sym (length-take-le _ c.args.s.now (omega arith))
+pub slice_bounds-common_suffix_pieces-length : goal.slice_bounds-common_suffix_pieces-length
+slice_bounds-common_suffix_pieces-length c = sym (length-take-le _ c.args.s.now (omega arith))
 
 pub overflow_add-result : goal.overflow_add-result
 overflow_add-result c = omega (arith, (offsets (goal.at.overflow_add-result c).After-common_suffix_offsets-e).fits _ (before c))
@@ -43,6 +43,6 @@ pub returns-then-e-t : goal.returns-then-e-t
 returns-then-e-t c =
     (offsets (goal.at.returns-then-e-t c).After-common_suffix_offsets-e).stops c.if-e-t.true
 
-pub slice_bounds-common_suffix3-count : goal.slice_bounds-common_suffix3-count
-slice_bounds-common_suffix3-count c =
-    omega (arith, (offsets (goal.at.slice_bounds-common_suffix3-count c).After-common_suffix_offsets-e).room)
+pub slice_bounds-common_suffix_pieces-count : goal.slice_bounds-common_suffix_pieces-count
+slice_bounds-common_suffix_pieces-count c =
+    omega (arith, (offsets (goal.at.slice_bounds-common_suffix_pieces-count c).After-common_suffix_offsets-e).room)

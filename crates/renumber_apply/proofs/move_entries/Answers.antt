@@ -13,24 +13,24 @@ use Rattle.renumber_apply.proofs.move_entries.Goals.{After-entry_count-count}
 
 -- the bank at p ends inside, where the next one starts
 room : (c : After-entry_count-count)
-    → (c.loop-i.p + 34 + c.entry_count-count.result * 2 ≤ length c.args.d.now)
-    × (c.loop-i.p + (34 + c.entry_count-count.result * 2)
-    ≡ bank_from c.args.d.now (c.loop-i.i + 1) c.args.start)
+    → (c.loop.p + 34 + c.entry_count-count.result * 2 ≤ length c.args.d.now)
+    × (c.loop.p + (34 + c.entry_count-count.result * 2)
+    ≡ bank_from c.args.d.now (c.loop.counter + 1) c.args.start)
 room c =
     let l = c in
     let a = l.args in
-    entries_fit (shift_of a.s) a.d.now l.loop-i.d a.start a.n l.loop-i.i l.loop-i.p (λ i. (l.slice_known-1.given i).fits) (omega arith) l.loop-i.invariant.0.1 (omega arith) l.loop-i.invariant.1.1 c.entry_count-count.result c.entry_count-count.ensures.0
+    entries_fit (shift_of a.s) a.d.now l.loop.d a.start a.n l.loop.counter l.loop.p (λ i. (l.slice_known-1.given i).fits) (omega arith) l.loop.invariant.0 (omega arith) l.loop.invariant.1.1 c.entry_count-count.result c.entry_count-count.ensures.0
 
-pub loop-i-init : goal.loop-i-init
-loop-i-init c =
+pub loop-init : goal.loop-init
+loop-init c =
     let a = c.args in
-    ((omega arith, sym (bank-none a.d.now a.start)), (omega arith, rw (banks_moved-none (shift_of a.s) a.d.now a.start) (over_none a.d.now a.start)))
+    (sym (bank-none a.d.now a.start), (omega arith, rw (banks_moved-none (shift_of a.s) a.d.now a.start) (over_none a.d.now a.start)))
 
 pub entry_count-count-requires : goal.entry_count-count-requires
 entry_count-count-requires c =
     let l = c in
     let a = l.args in
-    omega (arith, bank-order a.d.now l.loop-i.i a.n a.start (omega arith))
+    omega (arith, bank-order a.d.now l.loop.counter a.n a.start (omega arith))
 
 pub overflow_add-p : goal.overflow_add-p
 overflow_add-p c = omega (arith, room (goal.at.overflow_add-p c).After-entry_count-count)
@@ -41,23 +41,23 @@ move_run-requires c = omega (arith, room (goal.at.move_run-requires c).After-ent
 pub overflow_mul-p : goal.overflow_mul-p
 overflow_mul-p c = omega (arith, room (goal.at.overflow_mul-p c).After-entry_count-count)
 
-pub overflow_add-p-in-loop-i : goal.overflow_add-p-in-loop-i
-overflow_add-p-in-loop-i c = omega (arith, room (goal.at.overflow_add-p-in-loop-i c).After-entry_count-count)
+pub overflow_add-p-in-loop : goal.overflow_add-p-in-loop
+overflow_add-p-in-loop c = omega (arith, room (goal.at.overflow_add-p-in-loop c).After-entry_count-count)
 
-pub overflow_add-p-in-loop-i-2 : goal.overflow_add-p-in-loop-i-2
-overflow_add-p-in-loop-i-2 c = omega (arith, room (goal.at.overflow_add-p-in-loop-i-2 c).After-entry_count-count)
+pub overflow_add-p-in-loop-2 : goal.overflow_add-p-in-loop-2
+overflow_add-p-in-loop-2 c = omega (arith, room (goal.at.overflow_add-p-in-loop-2 c).After-entry_count-count)
 
-pub loop-i-preserved : goal.loop-i-preserved
-loop-i-preserved c =
+pub loop-preserved : goal.loop-preserved
+loop-preserved c =
     let k = c in
     let l = k in
     let a = l.args in
-    let turned = entries-step (shift_of a.s) a.d.now l.loop-i.d a.start a.n l.loop-i.i l.loop-i.p (λ i. (l.slice_known-1.given i).fits) (omega arith) l.loop-i.invariant.0.1 (omega arith) l.loop-i.invariant.1.1 _ k.entry_count-count.result (omega arith) k.entry_count-count.ensures.0 c.move_run.ensures in
-    ((omega arith, (room (goal.at.loop-i-preserved c).After-entry_count-count).1), (omega arith, turned))
+    let turned = entries-step (shift_of a.s) a.d.now l.loop.d a.start a.n l.loop.counter l.loop.p (λ i. (l.slice_known-1.given i).fits) (omega arith) l.loop.invariant.0 (omega arith) l.loop.invariant.1.1 _ k.entry_count-count.result (omega arith) k.entry_count-count.ensures.0 c.move_run.ensures in
+    ((room (goal.at.loop-preserved c).After-entry_count-count).1, (omega arith, turned))
 
 pub returns : goal.returns
 returns c =
-    let l = c.loop-i in
+    let l = c.loop in
     let a = c.args in
-    let e : l.i ≡ a.n = omega arith in
+    let e : l.counter ≡ a.n = omega arith in
     l.invariant.1.1 ∙ ap (λ (k : ℕ). over a.d.now a.start (banks_moved (shift_of a.s) a.d.now k a.start)) e

@@ -3,14 +3,14 @@ use Rattle.renumber.specs.Moved.{offsets_moved}
 use Rattle.renumber.specs.Shift.{growth_of}
 use Rattle.fields.proofs.Laws.{over_none}
 use Rattle.fields.specs.Bytes.{over}
-use mathlib.Core.Path.{◌≡◌, ap, ◌∙◌}
+use mathlib.Core.Path.{◌≡◌, refl, ap, ◌∙◌}
 use Prim.Native.Nat.{ℕ, ◌-◌}
 use native.Mathlib.Omega.{arith}
 use Rattle.renumber_apply.proofs.move_offsets.Goals as goal
 
 pub loop-i-init : goal.loop-i-init
 unfolding offsets_moved
-loop-i-init c = (omega arith, (omega arith, (omega arith, over_none _ _)))
+loop-i-init c = (refl, over_none _ _)
 
 pub loop-i-preserved : goal.loop-i-preserved
 loop-i-preserved c =
@@ -18,12 +18,12 @@ loop-i-preserved c =
     let l = w in
     let a = l.args in
     let put = rw (w.grown.ensures, w.le32.ensures) at w.put_le32.ensures in
-    let next = offsets-step (growth_of a.g) a.d.now l.loop-i.d _ a.start l.loop-i.i l.loop-i.p (omega arith) (omega arith) l.loop-i.invariant.1.1.1 put in
-    (omega arith, (omega arith, (omega arith, next)))
+    let next = offsets-step (growth_of a.g) a.d.now l.loop-i.d _ a.start l.loop-i.i _ refl (omega arith) l.loop-i.invariant.1 put in
+    (omega arith, next)
 
 pub returns : goal.returns
 returns c =
     let l = c.loop-i in
     let a = c.args in
     let e : l.i ≡ a.n = omega arith in
-    l.invariant.1.1.1 ∙ ap (λ (k : ℕ). over a.d.now a.start (offsets_moved k (growth_of a.g) a.d.now a.start)) e
+    l.invariant.1 ∙ ap (λ (k : ℕ). over a.d.now a.start (offsets_moved k (growth_of a.g) a.d.now a.start)) e

@@ -1,14 +1,10 @@
--- The invariant: i offsets are moved, and what stands from p on is as it was.
+-- The invariant: i offsets are moved.
 use Rattle.renumber.specs.Moved.{offsets_moved}
 use Rattle.renumber.specs.Shift.{growth_of}
 use Rattle.fields.specs.Bytes.{over}
 use lib.ListN.{length}
 use mathlib.Core.Path.{◌≡◌}
-use Prim.Native.Nat.{◌+◌, ◌*◌, ◌-◌, ◌≤◌}
 use Rattle.renumber_apply.proofs.move_offsets.Given as goal
 
 abbrev pub invariant-loop-i : goal.invariant-loop-i
-invariant-loop-i l = (l.i ≤ l.n) × ((l.p ≡ l.start + l.i * 4) × ((length l.d ≡ length l.initial.d) × (l.d ≡ over l.initial.d l.start (offsets_moved l.i (growth_of l.g) l.initial.d l.start))))
-
-abbrev pub decreases-loop-i : goal.decreases-loop-i
-decreases-loop-i l = l.n - l.i
+invariant-loop-i l = (length l.d ≡ length l.initial.d) × (l.d ≡ over l.initial.d l.start (offsets_moved l.i (growth_of l.g) l.initial.d l.start))

@@ -1,15 +1,11 @@
--- The invariant: i entries are moved, and what stands from p on is as it was.
+-- The invariant: i entries are moved.
 use Rattle.model.specs.Codeplug.{pairs, indexes_at}
 use mathlib.Core.List.{map}
 use Rattle.renumber.specs.Shift.{shift_of}
 use Rattle.fields.specs.Bytes.{over}
 use lib.ListN.{length}
 use mathlib.Core.Path.{◌≡◌}
-use Prim.Native.Nat.{◌+◌, ◌*◌, ◌-◌, ◌≤◌}
 use Rattle.renumber_apply.proofs.move_run.Given as goal
 
 abbrev pub invariant-loop-i : goal.invariant-loop-i
-invariant-loop-i l = (l.i ≤ l.n) × ((l.p ≡ l.start + l.i * 2) × ((length l.d ≡ length l.initial.d) × (l.d ≡ over l.initial.d l.start (pairs (map (shift_of l.s) (indexes_at l.initial.d l.i l.start))))))
-
-abbrev pub decreases-loop-i : goal.decreases-loop-i
-decreases-loop-i l = l.n - l.i
+invariant-loop-i l = (length l.d ≡ length l.initial.d) × (l.d ≡ over l.initial.d l.start (pairs (map (shift_of l.s) (indexes_at l.initial.d l.i l.start))))

@@ -4,12 +4,7 @@ use mathlib.Core.List.{map}
 use Rattle.renumber_last.specs.Last.{LastMoved}
 use Rattle.renumber.specs.Shift.{shift_of}
 use Rattle.fields.specs.Bytes.{over}
-use mathlib.Core.Path.{◌≡◌}
-use Prim.Native.Nat.{◌+◌, ◌*◌, ◌-◌, ◌≤◌}
 use Rattle.renumber_last.proofs.last_of_run.Given as goal
 
 abbrev pub invariant-loop-i : goal.invariant-loop-i
-invariant-loop-i l = (l.i ≤ l.n) × ((l.p ≡ l.start + l.i * 2) × LastMoved (shift_of l.s) l.f (over l.f l.start (pairs (map (shift_of l.s) (indexes_at l.f l.i l.start)))) l.start l.last)
-
-abbrev pub decreases-loop-i : goal.decreases-loop-i
-decreases-loop-i l = l.n - l.i
+invariant-loop-i l = LastMoved (shift_of l.s) l.f (over l.f l.start (pairs (map (shift_of l.s) (indexes_at l.f l.i l.start)))) l.start l.last

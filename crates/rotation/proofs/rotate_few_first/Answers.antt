@@ -1,26 +1,11 @@
--- The first bytes kept aside, the others moved down, the first put behind them.
-use mathlib.Core.Path.{sym}
-use lib.Seq.{length-take-le}
-use Rattle.rotation.proofs.RotationLaws.{rotated-down}
 use native.Mathlib.Omega.{arith}
-use borrow.Author.Rules.{rules}
+use lib.Seq.{length-take-le}
+use Rattle.rotation.proofs.RotationLaws.{waited, few-first}
 use Rattle.rotation.proofs.rotate_few_first.Goals as goal
-
-pub slice_bounds-put-end-3 : goal.slice_bounds-put-end-3
-slice_bounds-put-end-3 c =
-    let e = c.args in
-    sym (length-take-le e.by c.put.new.dst (search rules))
-
-pub put-requires-2 : goal.put-requires-2
-put-requires-2 c =
-    let e = c.args in
-    let l = length-take-le e.by c.put.new.dst (search rules) in
-    omega arith
 
 pub returns : goal.returns
 returns c =
-    let o = c in
-    let s = o in
-    let e = s.args in
-    rotated-down e.d.now _ _ _ _ e.from e.n e.by s.put.ensures o.move_down.ensures
-    c.put-2.ensures (omega arith) (omega arith)
+    let d = c.args.row.now in
+    let m = c.args.by in
+    let kept = waited _ _ _ _ m (length-take-le m d c.requires.0) c.copy_from_slice.ensures.after c.copy_from_slice-2.ensures.after in
+    few-first d _ _ m _ c.requires.0 c.copy_within.ensures.after kept (omega (arith, c.copy_within.ensures.len))

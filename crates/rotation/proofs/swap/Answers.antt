@@ -1,32 +1,17 @@
-use Prim.Native.Nat.{◌-◌}
-use lib.ListN.{length-set}
-use Rattle.rotation.proofs.RotationLaws.{swap-none, swap-more, swap-all}
+use Prim.Native.Nat.{◌+◌, ◌-◌}
+use mathlib.Core.Path.{◌≡◌, sym, ◌∙◌}
 use native.Mathlib.Omega.{arith}
+use Rattle.fields.specs.Bytes.{part}
+use Rattle.fields.proofs.Laws.{written_part, length_part}
 use Rattle.rotation.proofs.swap.Goals as goal
-
-pub loop-k-init : goal.loop-k-init
-loop-k-init c = (omega arith, ((omega arith, omega arith), (swap-none _ _ c.args.b.now c.args.j, swap-none _ _ c.args.a.now c.args.i)))
-
-pub loop-k-preserved : goal.loop-k-preserved
-loop-k-preserved c =
-    let e = c.args in
-    let l = c.loop-k in
-    let v = l.invariant.1.1 in (
-      omega arith,
-      (
-        (simp length-set (omega arith), simp length-set (omega arith)),
-        (
-          swap-more l.a e.a.now l.b e.b.now e.i e.j l.k v.0 v.1 (omega arith) (omega arith),
-          swap-more l.b e.b.now l.a e.a.now e.j e.i l.k v.1 v.0 (omega arith) (omega arith),
-        ),
-      ),
-    )
 
 pub returns : goal.returns
 returns c =
     let e = c.args in
-    let l = c.loop-k in
-    let v = l.invariant.1.1 in (
-      swap-all l.a e.a.now e.i e.b.now e.j e.n l.k v.0 (omega arith) (omega arith),
-      swap-all l.b e.b.now e.j e.a.now e.i e.n l.k v.1 (omega arith) (omega arith),
+    let i : e.i + e.n - e.i ≡ e.n = omega arith in
+    let j : e.j + e.n - e.j ≡ e.n = omega arith in
+    let f = length_part e.a.now e.i e.n c.requires.0 in
+    let g = length_part e.b.now e.j e.n c.requires.1 in (
+      written_part _ _ (part e.b.now e.j e.n) _ _ (rw j at c.swap_with_slice.ensures.after) (i ∙ sym g),
+      written_part _ _ (part e.a.now e.i e.n) _ _ (rw i at c.swap_with_slice.ensures.other_after) (j ∙ sym f),
     )

@@ -1,26 +1,18 @@
-use native.Mathlib.Omega.{arith}
-use Prim.Native.Nat.{◌-◌}
-use mathlib.Core.Path.{refl}
-use mathlib.Core.Logic.{inl, inr}
-use borrow.Author.Tests.{ltb-false}
-use Rattle.text.proofs.Laws.{plain_step, plain-stop, plain_end}
+-- The closure is the definition's test of a byte.
+use Rattle.std.proofs.Common.{◌≡◌, ℕ, List, [], ◌∷◌, refl, ap, ◌∙◌, ◌&&◌, rules}
+use Rattle.std.proofs.lemmas.Iterator.{YieldsList-from_slice}
+use Rattle.std.proofs.lemmas.Iterator.Search.{all_from_yields_List}
+use Rattle.std.specs.List.{list_all}
+use borrow.Author.Tests.{tests}
+use Rattle.text.specs.Text.{plain_text, printable}
 use Rattle.text.proofs.plain_text.Goals as goal
-use Rattle.text.proofs.plain_text.Goals.{then-s-i-lt32-via-then-s-i-lt32, then-s-i-lt32-via-else-s-i-lt32+then-s-i-gt126}
 
-pub loop-i-init : goal.loop-i-init
-loop-i-init c = (omega arith, refl)
-
-pub returns-then-s-i-lt32 : goal.returns-then-s-i-lt32
-returns-then-s-i-lt32 c =
-    let s = c.args.s.now in
-    let l = c.loop-i in
-    plain-stop s l.i (omega arith) (elim c.then-s-i-lt32.branch [ then-s-i-lt32-via-then-s-i-lt32 w ↦ inl (omega arith) | then-s-i-lt32-via-else-s-i-lt32+then-s-i-gt126 w ↦ inr (omega arith) ]) l.invariant.1
-
-pub loop-i-preserved : goal.loop-i-preserved
-loop-i-preserved c =
-    let s = c.args.s.now in
-    let l = c.loop-i in
-    (omega arith, plain_step s l.i (omega arith) (omega arith) (omega (arith, ltb-false)) l.invariant.1)
+all_printable : (s : List ℕ) → list_all printable s ≡ plain_text s
+unfolding plain_text
+all_printable [] = refl
+all_printable (b ∷ s) = ap (λ t. printable b && t) (all_printable s)
 
 pub returns : goal.returns
-returns c = plain_end _ c.loop-i.i (omega arith) c.loop-i.invariant.1
+unfolding printable
+returns c =
+    all_from_yields_List printable _ _ _ c.all.ensures.ran (YieldsList-from_slice c.args.s.now cc) (λ x b q k. search (rules, tests)) ∙ all_printable _

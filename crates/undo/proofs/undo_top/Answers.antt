@@ -1,5 +1,9 @@
 -- The scan finds the first entry, or that there is none.
-use mathlib.Core.Path.{◌∙◌}
+use mathlib.Core.Path.{◌≡◌, ap, ◌∙◌}
+use borrow.Author.Rules.{rules}
+use Rattle.std.specs.Result.{result_ok}
+use Rattle.format.specs.declared.refusals.Reason.TheVariants as reason
+use Rattle.fields.specs.Rule.{Refused}
 use lib.ListN.{length-take}
 use Rattle.journal.proofs.ScanLaws.{head_read, head-broken}
 use Rattle.preconditions.proofs.PreconditionLaws.{preconditions-inside}
@@ -19,10 +23,12 @@ slice_bounds-history_entries-end-2 c =
     let i = preconditions-inside _ e.room.now e.len e.history.now e.used c.requires in
     simp length-take (omega arith)
 
-pub returns-in_default : goal.returns-in_default
-returns-in_default c =
+pub returns-in_err-entries : goal.returns-in_err-entries
+returns-in_err-entries c =
     let e = c.args in
-    undo-broken _ e.room.now e.len e.history.now e.used c.requires c.history_entries.ensures c.in_default.is
+    let none = c.ok_or.ensures.ok_part ∙ ap result_ok c.in_err-entries.was in
+    let returned : c.from_residual.result ≡ Refused reason.BadHistory 0 = search rules in
+    rw returned (undo-broken _ e.room.now e.len e.history.now e.used c.requires c.history_entries.ensures none)
 
 pub slice_bounds-history_entry_at-end : goal.slice_bounds-history_entry_at-end
 slice_bounds-history_entry_at-end c =
@@ -36,22 +42,24 @@ slice_bounds-history_entry_at-end-2 c =
     let i = preconditions-inside _ e.room.now e.len e.history.now e.used c.requires in
     simp length-take (omega arith)
 
-pub returns-in_default-history_entry_at : goal.returns-in_default-history_entry_at
-returns-in_default-history_entry_at c =
+pub returns-in_err-top : goal.returns-in_err-top
+returns-in_err-top c =
     let e = c.args in
-    let w = held-read _ _ c.history_entries.ensures c.in-Entries.is in
-    undo-none _ e.room.now e.len e.history.now e.used c.requires _ w (head-broken _ 0 _ c.history_entry_at.ensures c.in_default-history_entry_at.is)
+    let w = held-read _ _ c.history_entries.ensures (c.ok_or.ensures.ok_part ∙ ap result_ok c.in_ok-entries.was) in
+    let none = c.ok_or-2.ensures.ok_part ∙ ap result_ok c.in_err-top.was in
+    let returned : c.from_residual-in_err-top.result ≡ Refused reason.NoUndo 0 = search rules in
+    rw returned (undo-none _ e.room.now e.len e.history.now e.used c.requires _ w (head-broken _ 0 _ c.history_entry_at.ensures none))
 
 pub take_back-requires : goal.take_back-requires
 take_back-requires c =
     let e = c.args in
-    let w = held-read _ _ c.history_entries.ensures c.in-Entries.is in
-    undo-asks _ e.room.now e.len e.history.now e.used c.requires _ _ w (head_read _ 0 _ c.history_entry_at.ensures c.in-Entry.is)
+    let w = held-read _ _ c.history_entries.ensures (c.ok_or.ensures.ok_part ∙ ap result_ok c.in_ok-entries.was) in
+    undo-asks _ e.room.now e.len e.history.now e.used c.requires _ _ w (head_read _ 0 _ c.history_entry_at.ensures (c.ok_or-2.ensures.ok_part ∙ ap result_ok c.in_ok-top.was))
 
 pub returns : goal.returns
 returns c =
     let e = c.args in
-    let w = held-read _ _ c.history_entries.ensures c.in-Entries.is in
+    let w = held-read _ _ c.history_entries.ensures (c.ok_or.ensures.ok_part ∙ ap result_ok c.in_ok-entries.was) in
     c.take_back.ensures
-    ∙ undo-first-entry _ e.room.now e.len e.history.now e.used c.requires _ _ w (head_read _ 0 _ c.history_entry_at.ensures c.in-Entry.is)
+    ∙ undo-first-entry _ e.room.now e.len e.history.now e.used c.requires _ _ w (head_read _ 0 _ c.history_entry_at.ensures (c.ok_or-2.ensures.ok_part ∙ ap result_ok c.in_ok-top.was))
     (λ j. (c.slice_known-2-1.given j).fits)

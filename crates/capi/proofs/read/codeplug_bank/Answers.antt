@@ -2,16 +2,5 @@
 use Rattle.codeplug.proofs.Laws.{bank-read}
 use Rattle.capi.proofs.read.codeplug_bank.Goals as goal
 
-pub bank_bytes-requires : goal.bank_bytes-requires
-bank_bytes-requires c = λ g. (c.bank_validity-v.ensures.1 g).0
-
-pub bank_out-requires : goal.bank_out-requires
-bank_out-requires c = λ g. c.bank_bytes.ensures.1 g
-
 pub returns : goal.returns
-returns c =
-    let b = c in
-    let v = b.bank_validity-v.ensures in
-    let e = b in
-    let a = e.args in
-    rw (← e.edition_of.ensures, ← bank-read _ a.file.now a.n _ _ v.0 v.1 b.bank_bytes.ensures.0) c.bank_out.ensures
+returns c = rw (← c.edition_of.ensures, ← bank-read _ c.args.file.now c.args.n _ _ c.bank_validity-v.ensures.0 c.bank_validity-v.ensures.1 c.bank_bytes.ensures.0) c.bank_out.ensures

@@ -2,16 +2,5 @@
 use Rattle.codeplug.proofs.Laws.{channel-read}
 use Rattle.capi.proofs.read.codeplug_channel.Goals as goal
 
-pub channel_bytes-requires : goal.channel_bytes-requires
-channel_bytes-requires c = λ g. c.channel_validity-v.ensures.1 g
-
-pub channel_out-requires : goal.channel_out-requires
-channel_out-requires c = λ g. c.channel_bytes.ensures.1 g
-
 pub returns : goal.returns
-returns c =
-    let b = c in
-    let v = b.channel_validity-v.ensures in
-    let e = b in
-    let a = e.args in
-    rw (← e.edition_of.ensures, ← channel-read _ a.file.now a.n _ _ v.0 b.channel_bytes.ensures.0) c.channel_out.ensures
+returns c = rw (← c.edition_of.ensures, ← channel-read _ c.args.file.now c.args.n _ _ c.channel_validity-v.ensures.0 c.channel_bytes.ensures.0) c.channel_out.ensures

@@ -2,16 +2,5 @@
 use Rattle.codeplug.proofs.Laws.{contact-read}
 use Rattle.capi.proofs.read.codeplug_contact.Goals as goal
 
-pub contact_bytes-requires : goal.contact_bytes-requires
-contact_bytes-requires c = λ g. c.contact_validity-v.ensures.1 g
-
-pub contact_out-requires : goal.contact_out-requires
-contact_out-requires c = λ g. c.contact_bytes.ensures.1 g
-
 pub returns : goal.returns
-returns c =
-    let b = c in
-    let v = b.contact_validity-v.ensures in
-    let e = b in
-    let a = e.args in
-    rw (← e.edition_of.ensures, ← contact-read _ a.file.now a.n _ _ v.0 b.contact_bytes.ensures.0) c.contact_out.ensures
+returns c = rw (← c.edition_of.ensures, ← contact-read _ c.args.file.now c.args.n _ _ c.contact_validity-v.ensures.0 c.contact_bytes.ensures.0) c.contact_out.ensures

@@ -1,5 +1,5 @@
--- The invariant: the entries from the j-th on, which stands at p, answer for all.
-use Prim.Native.Nat.{◌+◌, ◌*◌, ◌-◌, ◌≤◌}
+-- The invariant: the entries from the j-th on answer for all.
+use Prim.Native.Nat.{◌+◌, ◌*◌, ◌-◌}
 use mathlib.Core.Path.{◌≡◌}
 use Rattle.model.specs.Codeplug.{indexes_at}
 use Rattle.model.specs.EditRules.{holds_channel}
@@ -7,7 +7,4 @@ use Rattle.edit_check.proofs.in_use.bank_holds.Given as goal
 
 abbrev pub invariant-loop-j : goal.invariant-loop-j
 invariant-loop-j l =
-    (l.j ≤ l.n) × ((l.p ≡ l.start + l.j * 2) × (holds_channel l.i (indexes_at l.f l.n l.start) ≡ holds_channel l.i (indexes_at l.f (l.n - l.j) l.p)))
-
-abbrev pub decreases-loop-j : goal.decreases-loop-j
-decreases-loop-j l = l.n - l.j
+    holds_channel l.i (indexes_at l.f l.n l.start) ≡ holds_channel l.i (indexes_at l.f (l.n - l.j) (l.start + l.j * 2))

@@ -1,58 +1,41 @@
 -- The tests before the result is read, then reading it, then the room.
+use mathlib.Core.Path.{◌≡◌, ◌∙◌}
+use borrow.Author.Rules.{rules}
 use Rattle.edits.proofs.AcceptedCodeplug.{has-layout}
-use Rattle.edit_check.proofs.RefusalLaws.{Passed, early-passed, refused-early, refused-read, refused-room}
+use Rattle.edit_check.proofs.RefusalLaws.{Passed, early-passed, refused-read, refused-room}
 use Rattle.edit_check.proofs.refusal.refusal.Goals as goal
-use Rattle.edit_check.proofs.refusal.refusal.Goals.{In_default}
+use Rattle.edit_check.proofs.refusal.refusal.Goals.{In_ok-early_refusal}
 
 -- what the edit has once the first tests let it through
-passed : (c : In_default)
-    → Passed c.args.k c.args.i
-    c.args.j c.args.r.now
-    c.args.f.now
+passed : (c : In_ok-early_refusal) → Passed c.args.k c.args.i c.args.j c.args.r.now c.args.f.now
 passed c =
-    let b = c in
-    let a = b.args in
-    early-passed a.k a.i a.j a.r.now a.f.now _ b.early_refusal-early.ensures c.in_default.is
+    let a = c.args in
+    early-passed a.k a.i a.j a.r.now a.f.now _ c.early_refusal.ensures c.in_ok-early_refusal.was
 
-pub early_refusal-early-requires : goal.early_refusal-early-requires
-early_refusal-early-requires c = has-layout _ c.args.f.now c.requires (λ i. (c.type_inv.f i).fits)
+pub early_refusal-requires : goal.early_refusal-requires
+early_refusal-requires c = has-layout _ c.args.f.now c.requires (λ i. (c.type_inv.f i).fits)
 
-pub returns-in-Refused : goal.returns-in-Refused
-returns-in-Refused c =
-    let b = c in
-    let a = b.args in
-    refused-early a.k a.i a.j a.r.now a.f.now a.room _ _ _ _ b.early_refusal-early.ensures c.in-Refused.is
-
-pub result_validity-read-requires : goal.result_validity-read-requires
-result_validity-read-requires c =
-    let p = passed c in
+pub result_validity-requires : goal.result_validity-requires
+result_validity-requires c =
+    let p = passed (goal.at.result_validity-requires c).In_ok-early_refusal in
     (has-layout _ c.args.f.now c.requires (λ i. (c.type_inv.f i).fits), (p.wide, p.place))
 
-pub returns-in-Refused-read : goal.returns-in-Refused-read
-returns-in-Refused-read c =
-    let b = c in
-    let t = b in
-    let d = t in
-    let s = d in
-    let e = s in
-    let a = e.args in
-    refused-read a.k a.i a.j a.r.now a.f.now a.room _ _ d.early_refusal-early.ensures t.in_default.is
-    (λ i. (s.type_inv.f i).fits) (λ i. (s.type_inv.r i).fits) e.requires _ _ _ b.result_validity-read.ensures c.in-Refused-read.is
+pub returns-in_err-result_validity : goal.returns-in_err-result_validity
+returns-in_err-result_validity c =
+    let a = c.args in
+    let returned : c.from_residual-in_err-result_validity.result ≡ c.result_validity.result = search rules in
+    returned
+    ∙ refused-read a.k a.i a.j a.r.now a.f.now a.room _ _ c.early_refusal.ensures c.in_ok-early_refusal.was
+    (λ i. (c.type_inv.f i).fits) (λ i. (c.type_inv.r i).fits) c.requires _ _ c.result_validity.ensures c.in_err-result_validity.was
 
 pub result_length-requires : goal.result_length-requires
 result_length-requires c =
-    let t = c in
-    (has-layout _ c.args.f.now c.requires (λ i. (c.type_inv.f i).fits), (_, (passed (goal.at.result_length-requires c).In_default).place))
+    let p = passed (goal.at.result_length-requires c).In_ok-early_refusal in
+    (has-layout _ c.args.f.now c.requires (λ i. (c.type_inv.f i).fits), (_, p.place))
 
 pub returns : goal.returns
 returns c =
-    let q = c in
-    let b = q in
-    let t = b in
-    let d = t in
-    let s = d in
-    let e = s in
-    let a = e.args in
-    refused-room a.k a.i a.j a.r.now a.f.now a.room _ _ d.early_refusal-early.ensures t.in_default.is
-    (λ i. (s.type_inv.f i).fits) (λ i. (s.type_inv.r i).fits) e.requires _ _ _ b.result_validity-read.ensures q.in_default-read.is
+    let a = c.args in
+    refused-room a.k a.i a.j a.r.now a.f.now a.room _ _ c.early_refusal.ensures c.in_ok-early_refusal.was
+    (λ i. (c.type_inv.f i).fits) (λ i. (c.type_inv.r i).fits) c.requires _ _ _ c.result_validity.ensures c.in_ok-result_validity.was
     c.result_length.ensures c.unless.ensures

@@ -5,6 +5,7 @@ use Rattle.fields.proofs.Laws.{num-two, length_part, valid-field}
 use Rattle.layout.specs.Banks.{entry_at}
 use native.Mathlib.Omega.{arith}
 use Rattle.entry_validation.proofs.whole.entry_valid.Goals as goal
+use Rattle.format.specs.declared.refusals.Reason.TheVariants as reason
 
 pub overflow_cast-result : goal.overflow_cast-result
 overflow_cast-result c = omega (arith, c.type_inv.f c.args.p)
@@ -26,4 +27,4 @@ returns c =
     let start = c in
     let f = start.args.f.now in
     let p = start.args.p in
-    rw (num-two f p _ _ refl refl, start.requires.1) (sym (valid-field _ p 0 2 11 _ ∙ rw (length_part f p 2 (omega arith))))
+    rw (num-two f p _ _ refl refl, start.requires.1) (sym (valid-field _ p 0 2 reason.BankEntry _ ∙ rw (length_part f p 2 (omega arith))))

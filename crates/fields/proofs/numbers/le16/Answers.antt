@@ -1,8 +1,6 @@
--- The low byte and 256 times the high one.
-use Rattle.fields.proofs.Laws.{num-two}
+use mathlib.Core.Path.{◌∙◌}
+use Rattle.fields.proofs.Laws.{from_le-num}
 use Rattle.fields.proofs.numbers.le16.Goals as goal
 
 pub returns : goal.returns
-returns c =
-    let from = c.args in
-    num-two from.s.now from.k _ _ c.wide_at-low.ensures.0 c.wide_at-high.ensures.0
+returns c = c.from_le_bytes.ensures ∙ from_le-num _ _ _ 1 c.bytes_at.ensures

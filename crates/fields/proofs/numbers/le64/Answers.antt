@@ -1,8 +1,6 @@
--- Four bytes, and 2 ^ 32 times the next four.
-use Rattle.fields.proofs.Laws.{num-parts}
+use mathlib.Core.Path.{◌∙◌}
+use Rattle.fields.proofs.Laws.{from_le-num}
 use Rattle.fields.proofs.numbers.le64.Goals as goal
 
 pub returns : goal.returns
-returns c =
-    let from = c.args in
-    num-parts from.s.now from.k 4 4 _ _ c.le32-low.ensures c.le32-high.ensures
+returns c = c.from_le_bytes.ensures ∙ from_le-num _ _ _ 7 c.bytes_at.ensures

@@ -1,27 +1,13 @@
+use Prim.Native.Nat.{◌+◌, ◌-◌}
+use mathlib.Core.Path.{◌≡◌, ◌∙◌}
 use native.Mathlib.Omega.{arith}
-use Prim.Native.Nat.{◌<◌, ◌-◌}
-use mathlib.Core.Path.{refl}
-use lib.ListN.{length, length-set}
-use Rattle.fields.proofs.Laws.{copied_more, copied_all}
+use Rattle.std.specs.Array.{IsWholeChunk}
+use Rattle.fields.specs.Bytes.{part}
 use Rattle.fields.proofs.put.bytes32.Goals as goal
-
-pub loop-i-init : goal.loop-i-init
-loop-i-init c = (omega arith, (refl, refl))
-
-pub loop-i-preserved : goal.loop-i-preserved
-loop-i-preserved c =
-    let from = c.args in
-    let at = c.loop-i in
-    let h : at.i < length at.a = omega (arith, at.invariant.1.0) in (
-      omega arith,
-      (
-        simp length-set at.invariant.1.0,
-        copied_more at.a from.s.now from.k at.i at.invariant.1.1 h (omega arith),
-      ),
-    )
 
 pub returns : goal.returns
 returns c =
-    let from = c.args in
-    let at = c.loop-i in
-    copied_all at.a from.s.now from.k 32 at.i at.invariant.1.1 at.invariant.1.0 (omega arith)
+    let k = c.args.k in
+    let n : k + 32 - k ≡ 32 = omega arith in
+    let h : IsWholeChunk (part c.args.s.now k (k + 32 - k)) c.unwrap.result.now 32 = rw c.unwrap.ensures at c.as_array.ensures.cases in
+    h.same ∙ rw n

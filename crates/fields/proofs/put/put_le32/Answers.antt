@@ -1,7 +1,6 @@
--- The low half and the high half lie side by side.
-use native.Mathlib.Omega.{arith}
-use Rattle.fields.proofs.Laws.{over-little}
+use Rattle.std.specs.Int.{w32}
+use Rattle.fields.proofs.Laws.{to_le-little}
 use Rattle.fields.proofs.put.put_le32.Goals as goal
 
 pub returns : goal.returns
-returns c = over-little _ _ _ _ 2 2 _ c.put_le16.ensures c.put_le16-2.ensures (omega arith)
+returns c = rw (c.to_le_bytes.ensures, to_le-little w32 c.args.x) at c.put.ensures

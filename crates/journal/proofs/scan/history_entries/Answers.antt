@@ -1,25 +1,16 @@
-use Prim.Native.Nat.{◌-◌}
-use mathlib.Core.Path.{◌≡◌}
+use mathlib.Core.Path.{◌≡◌, ◌∙◌}
 use native.Mathlib.Omega.{arith}
-use lib.ListN.{length, drop}
-use Rattle.journal.specs.Entry.{front_of, none}
+use lib.ListN.{length}
+use Rattle.std.specs.Prelude.{None}
+use borrow.Author.Rules.{rules}
 use Rattle.journal.proofs.ScanLaws.{HeadRead, head_read, head-broken}
 use Rattle.journal.proofs.ScanLaws.{counted_start, counted_step, counted_stop, counted-end}
 use Rattle.journal.proofs.scan.history_entries.Goals as goal
-use Rattle.journal.proofs.scan.history_entries.Goals.{In-Broken, In-Entry}
+use Rattle.journal.proofs.scan.history_entries.Goals.{In_ok-k}
 
 -- what stands at k
-read : (c : In-Entry)
-    → HeadRead c.args.s.now c.loop-k.k
-    c.in-Entry.e
-read c = head_read _ _ _ c.history_entry_at.ensures c.in-Entry.is
-
-none_here : (c : In-Broken)
-    → front_of (drop c.loop-k.k c.args.s.now) ≡ none
-none_here c =
-    let l = c in
-    let s = l.args.s.now in
-    head-broken s l.loop-k.k (length s) c.history_entry_at.ensures c.in-Broken.is
+read : (c : In_ok-k) → HeadRead c.args.s.now c.loop-k.k c.in_ok-k.field-0
+read c = head_read _ _ _ c.history_entry_at.ensures c.in_ok-k.was
 
 pub loop-k-init : goal.loop-k-init
 loop-k-init c = (omega arith, counted_start c.args.s.now)
@@ -32,10 +23,13 @@ loop-k-preserved c =
     let l = c.loop-k in
     (omega (arith, read c), counted_step _ l.k l.n _ _ _ l.invariant.1 (read c) (omega arith))
 
-pub returns-in-Broken : goal.returns-in-Broken
-returns-in-Broken c =
-    let l = c in
-    counted_stop l.args.s.now l.loop-k.k l.loop-k.n _ l.loop-k.invariant.1 (omega arith) (none_here c)
+pub returns-in_err-k : goal.returns-in_err-k
+returns-in_err-k c =
+    let l = c.loop-k in
+    let s = c.args.s.now in
+    let none_here = head-broken s l.k (length s) c.history_entry_at.ensures c.in_err-k.was in
+    let returned : c.from_residual.result ≡ None = search rules in
+    returned ∙ counted_stop s l.k l.n _ l.invariant.1 (omega arith) none_here
 
 pub returns : goal.returns
 returns c =

@@ -1,10 +1,7 @@
--- Written over zeros.
-use mathlib.Core.Path.{refl, ◌∙◌}
-use mathlib.Core.List.{append-nil}
-use Rattle.fields.specs.Bytes.{zeros, little_bytes}
-use Rattle.fields.proofs.Laws.{over-fresh}
+use mathlib.Core.Path.{◌∙◌}
+use Rattle.std.specs.Int.{w16}
+use Rattle.fields.proofs.Laws.{to_le-little}
 use Rattle.plan.proofs.numbers.bytes16.Goals as goal
 
 pub returns : goal.returns
-unfolding zeros little_bytes
-returns c = c.put_le16.ensures ∙ over-fresh (little_bytes 2 c.args.x) 2 0 refl ∙ append-nil (little_bytes 2 c.args.x)
+returns c = c.to_le_bytes.ensures ∙ to_le-little w16 c.args.x

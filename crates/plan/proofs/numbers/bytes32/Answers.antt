@@ -1,10 +1,7 @@
--- Written over zeros.
-use mathlib.Core.Path.{refl, ◌∙◌}
-use mathlib.Core.List.{append-nil}
-use Rattle.fields.specs.Bytes.{zeros, little_bytes}
-use Rattle.fields.proofs.Laws.{over-fresh}
+use mathlib.Core.Path.{◌∙◌}
+use Rattle.std.specs.Int.{w32}
+use Rattle.fields.proofs.Laws.{to_le-little}
 use Rattle.plan.proofs.numbers.bytes32.Goals as goal
 
 pub returns : goal.returns
-unfolding zeros little_bytes
-returns c = c.put_le32.ensures ∙ over-fresh (little_bytes 4 c.args.x) 4 0 refl ∙ append-nil (little_bytes 4 c.args.x)
+returns c = c.to_le_bytes.ensures ∙ to_le-little w32 c.args.x

@@ -1,8 +1,0 @@
--- By the kind of answer.
-use Rattle.capi_convert.proofs.files.validate_answer.Goals as goal
-
-pub returns-in-Accepted : goal.returns-in-Accepted
-returns-in-Accepted c = rw c.in-Accepted.is
-
-pub returns-in-Refused : goal.returns-in-Refused
-returns-in-Refused c = rw c.in-Refused.is

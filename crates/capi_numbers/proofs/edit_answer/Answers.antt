@@ -1,8 +1,0 @@
--- By the kind of answer.
-use Rattle.capi_numbers.proofs.edit_answer.Goals as goal
-
-pub returns-in-Done : goal.returns-in-Done
-returns-in-Done c = rw c.in-Done.is
-
-pub returns-in-Refused : goal.returns-in-Refused
-returns-in-Refused c = rw c.in-Refused.is

@@ -1,8 +1,0 @@
--- By the kind of answer.
-use Rattle.capi_numbers.proofs.encode_answer.Goals as goal
-
-pub returns-in-Number : goal.returns-in-Number
-returns-in-Number c = rw c.in-Number.is
-
-pub returns-in-Refused : goal.returns-in-Refused
-returns-in-Refused c = rw c.in-Refused.is

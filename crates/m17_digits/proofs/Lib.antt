@@ -1,2 +1,0 @@
--- Laws of a group's digits.
-pub mod DigitLaws
