@@ -1,4 +1,4 @@
-// Bytes that hold more than one value, and signed bytes. Each kind has one pair of functions, out of a byte and into one.
+// Bytes that hold more than one value, and signed bytes: each kind out of a byte, by `From`, and into one, by a function, since not every value has a byte.
 #![tactic(auto)]
 
 ghost use Rattle.std.specs.Prelude.{◌≡◌, true};
@@ -19,13 +19,15 @@ pub struct Nibbles {
     pub low: u8,
 }
 
-#[tactic(auto, unfolding(crate::specs::Packed::number_flag_of))]
-pub fn number_flag_of(b: u8) -> NumberFlag
-    ensures { result ≡ number_flag_of b }
-{
-    NumberFlag {
-        number: b & 3,
-        flag: (b >> 2) & 1 == 1,
+impl From<u8> for NumberFlag {
+    ghost from_gives = { λ b c. c ≡ number_flag_of b };
+
+    #[tactic(auto, unfolding(crate::specs::Packed::number_flag_of))]
+    fn from(b: u8) -> NumberFlag {
+        NumberFlag {
+            number: b & 3,
+            flag: (b >> 2) & 1 == 1,
+        }
     }
 }
 
@@ -52,13 +54,15 @@ pub fn number_flag_valid(c: NumberFlag) -> bool
     c.number <= 2
 }
 
-#[tactic(auto, unfolding(crate::specs::Packed::nibbles_of))]
-pub fn nibbles_of(b: u8) -> Nibbles
-    ensures { result ≡ nibbles_of b }
-{
-    Nibbles {
-        high: b >> 4,
-        low: b & 15,
+impl From<u8> for Nibbles {
+    ghost from_gives = { λ b h. h ≡ nibbles_of b };
+
+    #[tactic(auto, unfolding(crate::specs::Packed::nibbles_of))]
+    fn from(b: u8) -> Nibbles {
+        Nibbles {
+            high: b >> 4,
+            low: b & 15,
+        }
     }
 }
 

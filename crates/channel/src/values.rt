@@ -9,22 +9,28 @@ use bits::NumberFlag;
 use fields::numbers::{byte_at, le16};
 use format::sizes::{DMR_CONTACT_AT, M17_CONTACT_AT};
 
-pub fn traits_of(b: u8) -> Traits
-    ensures { result ≡ traits_of b }
-{
-    let c = bits::number_flag_of(b);
-    Traits {
-        bandwidth: c.number,
-        receive_only: c.flag,
+impl From<u8> for Traits {
+    ghost from_gives = { λ b t. t ≡ traits_of b };
+
+    #[tactic(auto, unfolding(crate::specs::Values::traits_of))]
+    fn from(b: u8) -> Traits {
+        let c = NumberFlag::from(b);
+        Traits {
+            bandwidth: c.number,
+            receive_only: c.flag,
+        }
     }
 }
 
-pub fn traits_number_flag(t: Traits) -> NumberFlag
-    ensures { result ≡ traits_number_flag t }
-{
-    NumberFlag {
-        number: t.bandwidth,
-        flag: t.receive_only,
+impl From<Traits> for NumberFlag {
+    ghost from_gives = { λ t c. c ≡ traits_number_flag t };
+
+    #[tactic(auto, unfolding(crate::specs::Values::traits_number_flag))]
+    fn from(t: Traits) -> NumberFlag {
+        NumberFlag {
+            number: t.bandwidth,
+            flag: t.receive_only,
+        }
     }
 }
 

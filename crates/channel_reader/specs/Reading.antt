@@ -14,7 +14,7 @@ use Rattle.channel.specs.declared.Info.{Info}
 use Rattle.channel.specs.declared.Info.TheVariants.{Fm, Dmr, M17}
 use Rattle.channel.specs.declared.Channel.{Channel}
 use Rattle.channel.specs.Values.{traits_of, dmr_contact_at, m17_contact_at, contact_index_of}
-use Rattle.fields.specs.Rule.{Validity, Valid}
+use Rattle.fields.specs.Rule.{Validity}
 use Rattle.format.specs.declared.refusals.Refusal.{Refusal}
 
 -- ---- a valid record's value

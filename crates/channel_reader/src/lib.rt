@@ -6,8 +6,8 @@ ghost use Rattle.channel.specs.Rule.{channel_rule};
 ghost use Rattle.channel_reader.specs.Reading.{location_of, common_of, fm_of, dmr_of, m17_of, info_of, channel_of, blank_channel, channel_answer};
 ghost use Rattle.fields.specs.Rule.{Valid};
 
-use bits::{nibbles_of, signed_of};
-use channel::values::{contact_index_of, traits_of};
+use bits::{Nibbles, signed_of};
+use channel::values::contact_index_of;
 use channel::{Channel, Common, DmrInfo, FmInfo, Info, Location, M17Info, Traits};
 use channel_validation::validate;
 use fields::numbers::{byte_at, le16, le32};
@@ -32,7 +32,7 @@ fn location_of(s: &[u8]) -> Location
 pub fn common_of(s: &[u8]) -> Common
     ensures { result ≡ common_of s.now }
 {
-    let traits = traits_of(byte_at(s, 1));
+    let traits = Traits::from(byte_at(s, 1));
     let location = location_of(s);
     Common {
         traits,
@@ -59,7 +59,7 @@ pub fn dmr_of(s: &[u8]) -> DmrInfo
     ensures { result ≡ dmr_of s.now }
 {
     DmrInfo {
-        colours: nibbles_of(byte_at(s, 85)),
+        colours: Nibbles::from(byte_at(s, 85)),
         slot: byte_at(s, 86),
         contact: contact_index_of(le16(s, DMR_CONTACT_AT)),
     }
@@ -68,8 +68,8 @@ pub fn dmr_of(s: &[u8]) -> DmrInfo
 pub fn m17_of(s: &[u8]) -> M17Info
     ensures { result ≡ m17_of s.now }
 {
-    let access = nibbles_of(byte_at(s, 85));
-    let h = nibbles_of(byte_at(s, 86));
+    let access = Nibbles::from(byte_at(s, 85));
+    let h = Nibbles::from(byte_at(s, 86));
     let contact = contact_index_of(le16(s, M17_CONTACT_AT));
     M17Info {
         access,

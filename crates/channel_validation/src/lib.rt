@@ -7,6 +7,7 @@ pub mod whole; // whole.rt: whether a whole channel is valid, without a branch
 ghost use Rattle.std.specs.Prelude.{◌≡◌, ◌<◌, ◌^◌};
 ghost use Rattle.channel.specs.Rule.{head_rule_by, texts_rule, location_rule, fm_rule, dmr_rule, m17_rule, info_rule, channel_rule_by, channel_rule};
 
+use bits::Nibbles;
 use channel::values::{fraction_ok, latitude_fraction_ok, latitude_ok, operation_ok, slot_ok};
 use fields::numbers::{byte_at, le16};
 use fields::rule::field;
@@ -91,7 +92,7 @@ fn validate_m17(s: &[u8], base: usize, named: bool) -> Result<(), Refusal>
     ensures { result ≡ m17_rule s.now base named }
 {
     let left = s.len();
-    let h = bits::nibbles_of(byte_at(s, 86));
+    let h = Nibbles::from(byte_at(s, 86));
     field(left, base, 85, 1, Reason::Value, true)?;
     field(
         left,

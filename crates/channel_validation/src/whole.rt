@@ -4,6 +4,7 @@ ghost use Rattle.std.specs.Prelude.{◌≡◌, ℕ, length};
 ghost use Rattle.fields.specs.Rule.{is_valid};
 ghost use Rattle.channel.specs.Rule.{head_rule_by, texts_rule, location_rule, fm_rule, dmr_rule, m17_rule, info_rule, channel_rule_by, channel_rule};
 
+use bits::Nibbles;
 use channel::values::{fraction_ok, latitude_fraction_ok, latitude_ok, operation_ok, slot_ok};
 use fields::numbers::le16;
 use fields::rule::pick;
@@ -53,7 +54,7 @@ fn m17_valid(s: &[u8], named: bool) -> bool
     requires { length s.now ≡ 90 }
     ensures { (base : ℕ) → result ≡ is_valid (m17_rule s.now base named) }
 {
-    let h = bits::nibbles_of(s[86]);
+    let h = Nibbles::from(s[86]);
     operation_ok(h.high, h.low) & ((s[87] <= 1) & named)
 }
 

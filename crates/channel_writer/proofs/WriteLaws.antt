@@ -15,9 +15,9 @@ use mir.ValLaws.{to_z-of_z}
 use borrow.Author.Tests.{leb-true, le-leb}
 use Rattle.fields.specs.Bytes.{zeros, over, little_bytes}
 use Rattle.text.specs.Text.{given_ok, padded}
-use Rattle.fields.specs.Rule.{◌then◌, unless, Validity, Valid, Refused}
+use Rattle.fields.specs.Rule.{◌then◌, unless, Validity, Valid}
 use Rattle.fields.proofs.Laws.{Long, long-append, length-zeros, zeros-append, drop-zeros, over-over, over-front-at}
-use Rattle.fields.proofs.Laws.{then-valid, both-valid, unless-valid, unless-passes, written-valid, written-refused}
+use Rattle.fields.proofs.Laws.{then-valid, both-valid, unless-valid, unless-passes}
 use Rattle.text.proofs.Laws.{given_ok-length, length-padded}
 use Rattle.bits.specs.declared.Nibbles.{Nibbles}
 use Rattle.bits.specs.Packed.{number_flag_valid, nibbles_valid, signed_of, signed_byte}
@@ -25,7 +25,7 @@ use Rattle.bits.proofs.Laws.{signed-returns, i8_range-fits, and_left, and_right,
 use Rattle.tones.specs.Tone.{tone_valid}
 use Rattle.channel.specs.Values.{traits_number_flag, latitude_ok, latitude_fraction_ok, fraction_ok, slot_ok, operation_ok, encryption_ok, mode_number}
 use Rattle.channel_writer.specs.Writing.{head_write_rule, location_write_rule, info_write_rule, channel_write_rule}
-use Rattle.channel_writer.specs.Writing.{head_bytes, location_bytes, info_bytes, channel_bytes, channel_written}
+use Rattle.channel_writer.specs.Writing.{head_bytes, location_bytes, info_bytes, channel_bytes}
 use Rattle.channel.specs.declared.Location.{Location}
 use Rattle.channel.specs.declared.Common.{Common}
 use Rattle.channel.specs.declared.FmInfo.{FmInfo}

@@ -1,5 +1,5 @@
 -- A channel's value written to its record (document 01, "The refusals, by number"): a buffer that is too short, then the fields in order.
-use Rattle.std.specs.Prelude.{ℕ, ◌+◌, ◌&&◌, cond, List, [], ◌∷◌, ◌++◌, length, leb}
+use Rattle.std.specs.Prelude.{ℕ, ◌&&◌, cond, List, [], ◌∷◌, ◌++◌, length, leb}
 use Rattle.fields.specs.Bytes.{little_bytes}
 use Rattle.text.specs.Text.{given_ok, padded}
 use Rattle.fields.specs.Rule.{◌then◌, unless, written, Validity}

@@ -8,11 +8,11 @@ ghost use Rattle.channel.specs.Values.{mode_number};
 ghost use Rattle.fields.specs.Rule.{Valid};
 
 use bits::{
-    Nibbles, nibbles_byte, nibbles_valid, number_flag_byte, number_flag_valid, signed_byte,
+    Nibbles, NumberFlag, nibbles_byte, nibbles_valid, number_flag_byte, number_flag_valid,
+    signed_byte,
 };
 use channel::values::{
     contact_index_number, fraction_ok, latitude_fraction_ok, latitude_ok, operation_ok, slot_ok,
-    traits_number_flag,
 };
 use channel::{Common, DmrInfo, FmInfo, Info, Location, M17Info};
 use fields::put::{put, put_byte, put_le16, put_le32};
@@ -27,7 +27,7 @@ fn validate_head(c: Common) -> Result<(), Refusal>
     ensures { result ≡ head_write_rule c }
 {
     let t = c.traits;
-    unless(number_flag_valid(traits_number_flag(t)), Reason::Value, 1)?;
+    unless(number_flag_valid(NumberFlag::from(t)), Reason::Value, 1)?;
     unless(c.scan_list <= 250, Reason::Value, 11)?;
     unless(c.group_list <= 128, Reason::Value, 12)
 }
@@ -117,7 +117,7 @@ fn put_head(dst: &mut [u8], mode: u8, c: Common)
 {
     let t = c.traits;
     put_byte(dst, 0, mode);
-    put_byte(dst, 1, number_flag_byte(traits_number_flag(t)));
+    put_byte(dst, 1, number_flag_byte(NumberFlag::from(t)));
     put_byte(dst, 2, c.power);
     put_le32(dst, 3, c.receive_hz);
     put_le32(dst, 7, c.transmit_hz);

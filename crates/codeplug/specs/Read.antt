@@ -1,7 +1,7 @@
 -- Reading a file's parts (document 01, "The refusals, by number"): the file's refusal, then that there is no such place.
 use Rattle.std.specs.Prelude.{ℕ, ◌+◌, ◌*◌, List, [], ltb, Ok, Err, Result}
 use Rattle.fields.specs.Bytes.{part, num, zeros}
-use Rattle.fields.specs.Rule.{◌then◌, unless, Validity, Valid}
+use Rattle.fields.specs.Rule.{◌then◌, unless, Validity}
 use Rattle.m17.specs.declared.Edition.{Edition}
 use Rattle.contact.specs.Contact.{contact_answer}
 use Rattle.contact.specs.declared.Contact.{Contact}

@@ -5,21 +5,27 @@ ghost use Rattle.contact.specs.Contact.{settings_of, settings_number_flag};
 use crate::Settings;
 use bits::NumberFlag;
 
-pub fn settings_of(b: u8) -> Settings
-    ensures { result ≡ settings_of b }
-{
-    let c = bits::number_flag_of(b);
-    Settings {
-        contact_type: c.number,
-        rx_tone: c.flag,
+impl From<u8> for Settings {
+    ghost from_gives = { λ b t. t ≡ settings_of b };
+
+    #[tactic(auto, unfolding(crate::specs::Contact::settings_of))]
+    fn from(b: u8) -> Settings {
+        let c = NumberFlag::from(b);
+        Settings {
+            contact_type: c.number,
+            rx_tone: c.flag,
+        }
     }
 }
 
-pub fn settings_number_flag(t: Settings) -> NumberFlag
-    ensures { result ≡ settings_number_flag t }
-{
-    NumberFlag {
-        number: t.contact_type,
-        flag: t.rx_tone,
+impl From<Settings> for NumberFlag {
+    ghost from_gives = { λ t c. c ≡ settings_number_flag t };
+
+    #[tactic(auto, unfolding(crate::specs::Contact::settings_number_flag))]
+    fn from(t: Settings) -> NumberFlag {
+        NumberFlag {
+            number: t.contact_type,
+            flag: t.rx_tone,
+        }
     }
 }

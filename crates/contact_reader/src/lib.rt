@@ -5,7 +5,6 @@ ghost use Rattle.std.specs.Prelude.{◌≡◌, ◌≤◌, length};
 ghost use Rattle.contact.specs.Contact.{info_of, contact_of, blank_contact, contact_answer, contact_rule};
 ghost use Rattle.fields.specs.Rule.{Valid};
 
-use contact::settings_byte::settings_of;
 use contact::{Contact, ContactInfo, DmrContact, Settings};
 use contact_validation::validate;
 use fields::numbers::{be48, byte_at, le32};
@@ -21,7 +20,7 @@ fn info_of(s: &[u8]) -> ContactInfo
     if byte_at(s, format::sizes::CONTACT_MODE_AT) == contact::DMR {
         ContactInfo::Dmr(DmrContact {
             id: le32(s, 33),
-            settings: settings_of(byte_at(s, 37)),
+            settings: Settings::from(byte_at(s, 37)),
         })
     } else {
         ContactInfo::M17(m17::address_for(be48(s, 33)))

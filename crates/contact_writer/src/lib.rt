@@ -7,8 +7,8 @@ ghost use Rattle.text.specs.Text.{given_ok};
 ghost use Rattle.contact.specs.Contact.{info_write_rule, contact_write_rule, contact_bytes, contact_written, info_bytes};
 ghost use Rattle.fields.specs.Rule.{Valid};
 
+use bits::NumberFlag;
 use contact::ContactInfo;
-use contact::settings_byte::settings_number_flag;
 use fields::put::{put, put_be48, put_byte, put_le32};
 use fields::rule::unless;
 use format::refusals::{Reason, Refusal};
@@ -22,7 +22,7 @@ fn validate_info(info: ContactInfo, edition: Edition) -> Result<(), Refusal>
     match info {
         ContactInfo::M17(a) => unless(m17::address_valid(a, edition), Reason::Address, 33),
         ContactInfo::Dmr(d) => unless(
-            bits::number_flag_valid(settings_number_flag(d.settings)),
+            bits::number_flag_valid(NumberFlag::from(d.settings)),
             Reason::Value,
             37,
         ),
@@ -60,7 +60,7 @@ fn put_info(dst: &mut [u8], info: ContactInfo)
             put_byte(
                 dst,
                 37,
-                bits::number_flag_byte(settings_number_flag(d.settings)),
+                bits::number_flag_byte(NumberFlag::from(d.settings)),
             );
         }
     }

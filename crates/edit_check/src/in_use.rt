@@ -12,7 +12,7 @@ use layout::places::{
 use model::{Kind, is_index};
 
 // Whether some DMR or M17 channel names contact i.
-#[tactic(auto, unfolding(model::specs::Codeplug::codeplug_of))]
+#[tactic(auto, unfolding(model::specs::Codeplug::codeplug_of), using(crate::proofs::InUse::names_found, crate::proofs::InUse::names_next, crate::proofs::InUse::names_none))]
 pub(crate) fn some_names(f: &[u8], i: usize) -> bool
     ensures { result ≡ some_names i (codeplug_of f.now).channels }
 {
@@ -27,6 +27,7 @@ pub(crate) fn some_names(f: &[u8], i: usize) -> bool
 }
 
 // Whether one of n entries from place p on is channel i.
+#[tactic(auto, using(crate::proofs::InUse::holds_found, crate::proofs::InUse::holds_next, crate::proofs::InUse::holds_none))]
 fn bank_holds(f: &[u8], n: usize, start: usize, i: usize) -> bool
     requires { (n < 65536) × (start < 2 ^ 50) }
     ensures { result ≡ holds_channel i (indexes_at f.now n start) }
@@ -40,7 +41,7 @@ fn bank_holds(f: &[u8], n: usize, start: usize, i: usize) -> bool
 }
 
 // Whether some bank holds channel i.
-#[tactic(auto, unfolding(model::specs::Codeplug::codeplug_of))]
+#[tactic(auto, unfolding(model::specs::Codeplug::codeplug_of), using(crate::proofs::InUse::banks_found, crate::proofs::InUse::banks_next, crate::proofs::InUse::banks_none))]
 pub(crate) fn some_holds(f: &[u8], i: usize) -> bool
     ensures { result ≡ some_holds i (codeplug_of f.now).banks }
 {

@@ -158,9 +158,9 @@ unfolding head_of
 none-by (front e t) n g = let z : ◌≡◌ {A = ℕ} 0 1 = cc in absurd (omega arith)
 none-by none n g = refl
 
-pub head-broken : (s : List ℕ) (k n : ℕ) {r : Option EntryHead} → r ≡ head_of (front_of (drop k s)) n → r ≡ None
+pub head_broken : (s : List ℕ) (k n : ℕ) {r : Option EntryHead} → r ≡ head_of (front_of (drop k s)) n → r ≡ None
     → front_of (drop k s) ≡ none
-head-broken s k n e f = none-by (front_of (drop k s)) n (sym e ∙ f)
+head_broken s k n e f = none-by (front_of (drop k s)) n (sym e ∙ f)
 
 -- the entry's size is what lies between
 pub head-size : (s : List ℕ) (k : ℕ) (h : EntryHead) → AllBytes s → (r : HeadRead s k h) → k + entry_size r.entry ≡ h.next
@@ -211,10 +211,10 @@ pub counted_stop : (s : List ℕ) (k n : ℕ) (all : Option ℕ) → all ≡ add
 unfolding added number_of_entries
 counted_stop s k n all e h f = sym (e ∙ rw (entries-stop (drop k s) (omega (arith, length-drop k s)) f))
 
-pub counted-end : (s : List ℕ) (k n : ℕ) (all : Option ℕ) → all ≡ added n (number_of_entries (entries_of (drop k s))) → length s ≤ k
+pub counted_end : (s : List ℕ) (k n : ℕ) (all : Option ℕ) → all ≡ added n (number_of_entries (entries_of (drop k s))) → length s ≤ k
     → Some n ≡ all
 unfolding added number_of_entries
-counted-end s k n all e h =
+counted_end s k n all e h =
     let z : n + 0 ≡ n = omega arith in
     sym (e ∙ rw (drop_of_length-le s h, entries_none, z))
 

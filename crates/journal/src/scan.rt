@@ -47,6 +47,7 @@ pub fn history_entry_at(s: &[u8], k: usize) -> Option<EntryHead>
 }
 
 // How many entries a history holds, or that it is not whole entries.
+#[tactic(auto, using(crate::proofs::ScanLaws::head_broken, crate::proofs::ScanLaws::counted_start, crate::proofs::ScanLaws::counted_stop, crate::proofs::ScanLaws::counted_end))]
 pub fn history_entries(s: &[u8]) -> Option<usize>
     ensures { result ≡ number_of_entries (entries_of s.now) }
 {

@@ -1,19 +1,18 @@
 -- Laws of what both calls validate first.
-use Prim.Native.Nat.{ℕ, ◌≤◌, ◌<◌}
-use mathlib.Core.Path.{◌≡◌, refl, sym, ◌∙◌}
+use Prim.Native.Nat.{ℕ, ◌≤◌}
+use mathlib.Core.Path.{◌≡◌, refl, sym}
 use mathlib.Core.Bool.{Bool, true, false, true≢false, ◌&&◌}
 use mathlib.Core.List.{List}
 use native.Mathlib.Omega.{arith}
-use lib.ListN.{length, take}
+use lib.ListN.{length}
 use lib.Dec.{leb}
-use borrow.Author.Tests.{le-leb, lt-leb, leb-true}
-use Rattle.fields.specs.Rule.{◌then◌, unless, Validity, Valid, Refused}
+use borrow.Author.Tests.{leb-true}
+use Rattle.fields.specs.Rule.{unless, Valid}
 use Rattle.fields.proofs.Laws.{then-valid, unless-valid}
 use Rattle.m17.specs.declared.Edition.{Edition}
-use Rattle.file_rule.specs.File.{file_rule}
-use Rattle.journal.specs.Entry.{Entries, whole, broken, entries_of}
+use Rattle.journal.specs.Entry.{Entries, whole, broken}
 use Rattle.journal.specs.History.{number_of_entries}
-use Rattle.journal.specs.Machine.{State, whole_rule, file_of, history_of, buffers_rule}
+use Rattle.journal.specs.Machine.{State, whole_rule, history_of, buffers_rule}
 use Rattle.edits.specs.Editing.{editing}
 use Rattle.preconditions.specs.Calls.{state_of}
 use Rattle.std.specs.Prelude.{None}

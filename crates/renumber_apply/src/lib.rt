@@ -51,6 +51,7 @@ pub fn move_contacts(d: &mut [u8], start: usize, n: usize, s: Shift)
 }
 
 // The n entries at `start` of one bank.
+#[tactic(auto, unfolding(model::specs::Codeplug::pairs, model::specs::Codeplug::indexes_at), using(renumber::proofs::Laws::run_step, fields::proofs::Laws::over_none))]
 fn move_run(d: &mut [u8], start: usize, n: usize, s: Shift)
     requires { (start + n * 2 ≤ length d.old) × (n < 65536) }
     ensures { d.new ≡ over d.old start (pairs (map (shift_of s) (indexes_at d.old n start))) }

@@ -8,7 +8,7 @@ use Rattle.fields.specs.Bytes.{part, num, little, over, little_bytes}
 use Rattle.fields.proofs.Laws.{AllBytes, over_none, part-over, length_over, length_part, little_bytes-num, little-little_bytes, length-little_bytes}
 use Rattle.buffers.proofs.Laws.{over-ahead}
 use Rattle.layout.specs.Banks.{entry_count, bank_from}
-use Rattle.model.specs.Codeplug.{pairs, indexes_at}
+use Rattle.model.specs.Codeplug.{pairs, indexes_at, blocks, joined}
 use Rattle.model.specs.Edits.{move_contact}
 use Rattle.renumber.specs.Moved.{channels_moved, banks_moved}
 use Rattle.renumber_last.specs.Last.{LastMoved}
@@ -28,10 +28,10 @@ index_stays g f p x y b h ex ey e =
     rw (z, little_bytes-num f p 2 b h) (over-self f p 2 h)
 
 -- it moves
-pub index-moves : (g : ℕ → ℕ) (f : List ℕ) (p x y : ℕ) → p + 2 ≤ length f → g (num f p 2) < 65536 → x ≡ num f p 2 → y ≡ g x → (y ≡ x → ⊥)
+pub index_moves : (g : ℕ → ℕ) (f : List ℕ) (p x y : ℕ) → p + 2 ≤ length f → g (num f p 2) < 65536 → x ≡ num f p 2 → y ≡ g x → (y ≡ x → ⊥)
     → LastMoved g f (over f p (little_bytes 2 (g (num f p 2)))) p (Some p)
 unfolding LastMoved
-index-moves g f p x y h s ex ey n =
+index_moves g f p x y h s ex ey n =
     let z = g (num f p 2) in
     let l = length-little_bytes 2 z in
     record {
@@ -49,10 +49,10 @@ unfolding LastMoved
 last_none g f p = sym (over_none f p)
 
 -- the same renumbering, written another way and from an earlier place on
-pub last-from : (g : ℕ → ℕ) (f h k : List ℕ) (p q : ℕ) (r : Option ℕ) → q ≤ p → h ≡ k → LastMoved g f h p r → LastMoved g f k q r
+pub last_from : (g : ℕ → ℕ) (f h k : List ℕ) (p q : ℕ) (r : Option ℕ) → q ≤ p → h ≡ k → LastMoved g f h p r → LastMoved g f k q r
 unfolding LastMoved
-last-from g f h k p q None o e u = sym e ∙ u
-last-from g f h k p q (Some l) o e u =
+last_from g f h k p q None o e u = sym e ∙ u
+last_from g f h k p q (Some l) o e u =
     record {
       starts = omega (arith, u.starts);
       inside = u.inside;
@@ -83,41 +83,45 @@ pub last_step : (g : ℕ → ℕ) (f a b c : List ℕ) (start p : ℕ) (r q t : 
 last_step g f a b c start p r q t s h x u v w =
     let e : over (over f p b) start a ≡ over f start c = over-ahead f start a p b s (omega arith) ∙ ap (λ (l : List ℕ). over f start l) x in
     rw w
-    (last-from g f (over (over f p b) start a) (over f start c) start start (option_or q r) (omega arith) e
+    (last_from g f (over (over f p b) start a) (over f start c) start start (option_or q r) (omega arith) e
     (last-later g f (over f p b) a start p r q s (rw (length_over f p b h) (omega arith)) u v))
 
--- ---- a turn of each loop, at the i-th record, which stands at p
+-- ---- before each loop, and a turn of it, at the i-th record, which stands at p
 
-pub contacts-last : (g : ℕ → ℕ) (f : List ℕ) (start i p : ℕ) (r q t : Option ℕ) → p ≡ start + i * 90 → start + i * 90 + 90 ≤ length f
+pub contacts_none : (g : ℕ → ℕ) (f : List ℕ) (start : ℕ) → LastMoved g f (over f start (channels_moved g f 0 start)) start None
+unfolding channels_moved blocks joined
+contacts_none g f start = last_none g f start
+
+pub contacts_last : (g : ℕ → ℕ) (f : List ℕ) (start i p : ℕ) (r q t : Option ℕ) → p ≡ start + i * 90 → start + i * 90 + 90 ≤ length f
     → LastMoved g f (over f start (channels_moved g f i start)) start r → LastMoved g f (over f p (move_contact g (part f p 90))) p q
     → t ≡ option_or q r → LastMoved g f (over f start (channels_moved g f (i + 1) start)) start t
-contacts-last g f start i p r q t at h u v w =
+contacts_last g f start i p r q t at h u v w =
     let n = length-channels_moved g f i start (omega arith) in
     let m = moved-wide g (part f p 90) (length_part f p 90 (omega arith)) in
     last_step g f (channels_moved g f i start) (move_contact g (part f p 90)) (channels_moved g f (i + 1) start) start p r q t
     (omega arith) (omega arith) (rw at (channels_moved-last g f i start)) u v w
 
-pub run-last-step : (g : ℕ → ℕ) (f : List ℕ) (start i p : ℕ) (r q t : Option ℕ) → p ≡ start + i * 2 → start + i * 2 + 2 ≤ length f
+pub run_last : (g : ℕ → ℕ) (f : List ℕ) (start i p : ℕ) (r q t : Option ℕ) → p ≡ start + i * 2 → start + i * 2 + 2 ≤ length f
     → LastMoved g f (over f start (pairs (map g (indexes_at f i start)))) start r
     → LastMoved g f (over f p (little_bytes 2 (g (num f p 2)))) p q → t ≡ option_or q r
     → LastMoved g f (over f start (pairs (map g (indexes_at f (i + 1) start)))) start t
-run-last-step g f start i p r q t at h u v w =
+run_last g f start i p r q t at h u v w =
     let n = length_run g f i start in
     let m = length-little_bytes 2 (g (num f p 2)) in
     last_step g f (pairs (map g (indexes_at f i start))) (little_bytes 2 (g (num f p 2))) (pairs (map g (indexes_at f (i + 1) start))) start p r q t
     (omega arith) (omega arith) (rw at (run-last g f i start)) u v w
 
 -- the bank at p has k entries
-pub entries-last : (g : ℕ → ℕ) (f : List ℕ) (start i p k : ℕ) (r q t : Option ℕ) → AllBytes f → p ≡ bank_from f i start
+pub entries_last : (g : ℕ → ℕ) (f : List ℕ) (start i p k : ℕ) (r q t : Option ℕ) → AllBytes f → p ≡ bank_from f i start
     → p + 34 + k * 2 ≤ length f → k ≡ entry_count f p
     → LastMoved g f (over f start (banks_moved g f i start)) start r
     → LastMoved g f (over f (p + 34) (pairs (map g (indexes_at f k (p + 34))))) (p + 34) q → t ≡ option_or q r
     → LastMoved g f (over f start (banks_moved g f (i + 1) start)) start t
-entries-last g f start i p k r q t b at h c u v w =
+entries_last g f start i p k r q t b at h c u v w =
     let e : bank_from f (i + 1) start ≡ p + 34 + entry_count f p * 2 = rw at (bank-ends f i start) in
     let n : start + length (banks_moved g f i start) ≡ bank_from f i start = length-banks_moved g f i start b (omega arith) in
     let m = length-bank_moved g f p (omega arith) in
     let o : over f (p + 34) (pairs (map g (indexes_at f k (p + 34)))) ≡ over f p (bank_moved g f p) = rw c (bank-over g f p (omega arith)) in
     last_step g f (banks_moved g f i start) (bank_moved g f p) (banks_moved g f (i + 1) start) start p r q t
     (omega arith) (omega arith) (rw at (banks_moved-last g f i start b (omega arith))) u
-    (last-from g f (over f (p + 34) (pairs (map g (indexes_at f k (p + 34))))) (over f p (bank_moved g f p)) (p + 34) p q (omega arith) o v) w
+    (last_from g f (over f (p + 34) (pairs (map g (indexes_at f k (p + 34))))) (over f p (bank_moved g f p)) (p + 34) p q (omega arith) o v) w

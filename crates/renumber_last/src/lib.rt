@@ -45,6 +45,7 @@ fn last_of_channel(f: &[u8], p: usize, s: Shift) -> Option<usize>
 }
 
 // The contact indexes of n channels.
+#[tactic(auto, using(crate::proofs::LastLaws::contacts_none))]
 pub fn last_contact(f: &[u8], start: usize, n: usize, s: Shift) -> Option<usize>
     requires { (start + n * 90 ≤ length f.now) × (n < 65536) }
     ensures { LastMoved (shift_of s) f.now (over f.now start (channels_moved (shift_of s) f.now n start)) start result }
@@ -57,6 +58,7 @@ pub fn last_contact(f: &[u8], start: usize, n: usize, s: Shift) -> Option<usize>
 }
 
 // The n entries at `start` of one bank.
+#[tactic(auto, unfolding(model::specs::Codeplug::pairs, model::specs::Codeplug::indexes_at), using(crate::proofs::LastLaws::run_last, crate::proofs::LastLaws::last_none))]
 fn last_of_run(f: &[u8], start: usize, n: usize, s: Shift) -> Option<usize>
     requires { (start + n * 2 ≤ length f.now) × (n < 65536) }
     ensures { LastMoved (shift_of s) f.now (over f.now start (pairs (map (shift_of s) (indexes_at f.now n start)))) start result }

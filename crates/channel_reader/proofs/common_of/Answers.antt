@@ -13,6 +13,6 @@ returns c =
       c.le32.ensures,
       c.byte_at-2.ensures,
       d.location_of-location.ensures,
-      d.traits_of-traits.ensures,
+      d.from-traits.ensures,
       d.byte_at.ensures,
     )

@@ -9,6 +9,6 @@ returns c =
       c.contact_index_of.ensures,
       c.le16.ensures,
       c.byte_at-2.ensures,
-      c.nibbles_of.ensures,
+      c.from.ensures,
       c.byte_at.ensures,
     )

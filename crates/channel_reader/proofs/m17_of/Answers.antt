@@ -10,8 +10,8 @@ returns c =
       c.byte_at-3.ensures,
       c.contact_index_of-contact.ensures,
       c.le16.ensures,
-      c.nibbles_of-h.ensures,
+      c.from-h.ensures,
       c.byte_at-2.ensures,
-      d.nibbles_of-access.ensures,
+      d.from-access.ensures,
       d.byte_at.ensures,
     )

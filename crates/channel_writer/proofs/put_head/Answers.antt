@@ -9,7 +9,7 @@ use Rattle.channel_writer.proofs.put_head.Goals as goal
 
 pub number_flag_byte-requires : goal.number_flag_byte-requires
 number_flag_byte-requires c =
-    rw c.traits_number_flag.ensures (head-writable _ c.requires.1).traits
+    rw c.from.ensures (head-writable _ c.requires.1).traits
 
 pub returns : goal.returns
 unfolding head_bytes little_bytes
@@ -24,4 +24,4 @@ returns c =
     let r5 = run-then r4 _ _ (long-little 4 _) e.put_le32-2.ensures in
     let r6 = run-then r5 _ _ (long-byte _) c.put_byte-4.ensures in
     let r7 = run-then r6 _ _ (long-byte _) c.put_byte-5.ensures in
-    r7.is ∙ rw (g.number_flag_byte.ensures, g.traits_number_flag.ensures)
+    r7.is ∙ rw (g.number_flag_byte.ensures, g.from.ensures)

@@ -12,7 +12,7 @@ returns-then-byte_at-eq-DMR c =
     let m = c.byte_at in
     let e = c in
     let one : get_or e.args.s.now 32 0 ≡ 1 = omega (arith, m.ensures) in
-    rw (c.settings_of.ensures, c.byte_at-then-byte_at-eq-DMR.ensures, c.le32.ensures, one)
+    rw (c.from.ensures, c.byte_at-then-byte_at-eq-DMR.ensures, c.le32.ensures, one)
 
 pub returns-else-byte_at-eq-DMR : goal.returns-else-byte_at-eq-DMR
 unfolding info_of

@@ -16,7 +16,7 @@ pub number_flag_byte-requires : goal.number_flag_byte-requires
 number_flag_byte-requires c =
     let i = c in
     let e = i in
-    rw c.settings_number_flag.ensures (dmr-writable _ _ (rw i.in-Dmr.is at e.requires.1.1.1))
+    rw c.from.ensures (dmr-writable _ _ (rw i.in-Dmr.is at e.requires.1.1.1))
 
 pub returns-in-M17 : goal.returns-in-M17
 returns-in-M17 c =
@@ -37,4 +37,4 @@ returns-in-Dmr c =
     let e = i in
     rw i.in-Dmr.is
     (put-dmr e.args.dst.now p.put_byte-in-Dmr.new.dst l.put_le32.new.dst _ _ _ e.requires.0 e.requires.1.0 p.put_byte-in-Dmr.ensures
-    l.put_le32.ensures b.put_byte-in-Dmr-2.ensures (b.number_flag_byte.ensures ∙ rw b.settings_number_flag.ensures))
+    l.put_le32.ensures b.put_byte-in-Dmr-2.ensures (b.number_flag_byte.ensures ∙ rw b.from.ensures))

@@ -12,6 +12,6 @@ returns-in-Dmr c =
     rw (
       c.unless-in-Dmr.ensures,
       c.number_flag_valid.ensures,
-      c.settings_number_flag.ensures,
+      c.from.ensures,
       c.in-Dmr.is,
     )

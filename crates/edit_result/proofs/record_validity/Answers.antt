@@ -1,6 +1,5 @@
 -- Each arm knows its kinds: the rule for them, where the kind's place is there.
 use mathlib.Core.Logic.{inl, inr}
-use mathlib.Core.List.{[]}
 use Rattle.fields.specs.Rule.{◌then◌, unless}
 use Rattle.edits.specs.ResultValidity.{may_grow}
 use Rattle.edit_result.proofs.ValidityLaws.{asks-as}

@@ -1,5 +1,4 @@
 -- Each arm knows its kinds; what is taken away is there, since the place is.
-use mathlib.Core.List.{[]}
 use Rattle.edit_result.proofs.LengthLaws.{bank-fits, channel-fits}
 use Rattle.edit_result.proofs.ValidityLaws.{remove-channel-place, remove-bank-place}
 use native.Mathlib.Omega.{arith}

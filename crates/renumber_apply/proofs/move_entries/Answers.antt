@@ -1,12 +1,10 @@
 use Rattle.renumber.proofs.Laws.{bank-order, entries_fit, entries-step, bank-none, banks_moved-none}
-use Rattle.renumber.specs.Moved.{banks_moved}
 use Rattle.renumber.specs.Shift.{shift_of}
 use Rattle.layout.specs.Banks.{bank_from}
 use Rattle.fields.proofs.Laws.{over_none}
-use Rattle.fields.specs.Bytes.{over}
 use lib.ListN.{length}
-use mathlib.Core.Path.{◌≡◌, sym, ap, ◌∙◌}
-use Prim.Native.Nat.{ℕ, ◌+◌, ◌*◌, ◌-◌, ◌≤◌}
+use mathlib.Core.Path.{◌≡◌, sym}
+use Prim.Native.Nat.{◌+◌, ◌*◌, ◌≤◌}
 use native.Mathlib.Omega.{arith}
 use Rattle.renumber_apply.proofs.move_entries.Goals as goal
 use Rattle.renumber_apply.proofs.move_entries.Goals.{After-entry_count-count}
@@ -54,10 +52,3 @@ loop-preserved c =
     let a = l.args in
     let turned = entries-step (shift_of a.s) a.d.now l.loop.d a.start a.n l.loop.counter l.loop.p (λ i. (l.slice_known-1.given i).fits) (omega arith) l.loop.invariant.0 (omega arith) l.loop.invariant.1.1 _ k.entry_count-count.result (omega arith) k.entry_count-count.ensures.0 c.move_run.ensures in
     ((room (goal.at.loop-preserved c).After-entry_count-count).1, (omega arith, turned))
-
-pub returns : goal.returns
-returns c =
-    let l = c.loop in
-    let a = c.args in
-    let e : l.counter ≡ a.n = omega arith in
-    l.invariant.1.1 ∙ ap (λ (k : ℕ). over a.d.now a.start (banks_moved (shift_of a.s) a.d.now k a.start)) e

@@ -5,7 +5,6 @@ use Rattle.layout.specs.Banks.{bank_from}
 use Rattle.fields.specs.Bytes.{over}
 use lib.ListN.{length}
 use mathlib.Core.Path.{◌≡◌}
-use Prim.Native.Nat.{ℕ}
 use Rattle.renumber_apply.proofs.move_entries.Given as goal
 
 abbrev pub invariant-loop : goal.invariant-loop

@@ -2,9 +2,7 @@ use Rattle.renumber.proofs.Laws.{offsets-step}
 use Rattle.renumber.specs.Moved.{offsets_moved}
 use Rattle.renumber.specs.Shift.{growth_of}
 use Rattle.fields.proofs.Laws.{over_none}
-use Rattle.fields.specs.Bytes.{over}
-use mathlib.Core.Path.{◌≡◌, refl, ap, ◌∙◌}
-use Prim.Native.Nat.{ℕ, ◌-◌}
+use mathlib.Core.Path.{refl}
 use native.Mathlib.Omega.{arith}
 use Rattle.renumber_apply.proofs.move_offsets.Goals as goal
 
@@ -20,10 +18,3 @@ loop-i-preserved c =
     let put = rw (w.grown.ensures, w.le32.ensures) at w.put_le32.ensures in
     let next = offsets-step (growth_of a.g) a.d.now l.loop-i.d _ a.start l.loop-i.i _ refl (omega arith) l.loop-i.invariant.1 put in
     (omega arith, next)
-
-pub returns : goal.returns
-returns c =
-    let l = c.loop-i in
-    let a = c.args in
-    let e : l.i ≡ a.n = omega arith in
-    l.invariant.1 ∙ ap (λ (k : ℕ). over a.d.now a.start (offsets_moved k (growth_of a.g) a.d.now a.start)) e

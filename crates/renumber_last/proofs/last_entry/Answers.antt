@@ -1,4 +1,4 @@
-use Rattle.renumber_last.proofs.LastLaws.{last_none, last-from, entries-last}
+use Rattle.renumber_last.proofs.LastLaws.{last_none, last_from, entries_last}
 use Rattle.renumber.proofs.Laws.{bank-order, bank-fits, bank-none, banks_moved-none}
 use Rattle.renumber.specs.Moved.{banks_moved}
 use Rattle.renumber.specs.Shift.{shift_of}
@@ -6,7 +6,7 @@ use Rattle.layout.specs.Banks.{bank_from}
 use Rattle.fields.specs.Bytes.{over}
 use lib.ListN.{length}
 use mathlib.Core.Path.{◌≡◌, sym, ap}
-use Prim.Native.Nat.{ℕ, ◌+◌, ◌*◌, ◌-◌, ◌≤◌}
+use Prim.Native.Nat.{ℕ, ◌+◌, ◌*◌, ◌≤◌}
 use native.Mathlib.Omega.{arith}
 use Rattle.renumber_last.proofs.last_entry.Goals as goal
 use Rattle.renumber_last.proofs.last_entry.Goals.{After-entry_count-count}
@@ -53,7 +53,7 @@ loop-preserved c =
     let k = r in
     let l = k in
     let a = l.args in
-    let next = entries-last (shift_of a.s) a.f.now a.start l.loop.counter l.loop.p k.entry_count-count.result l.loop.last r.last_of_run.result c.or-last.result (λ i. (l.type_inv.f i).fits) l.loop.invariant.0 (room (goal.at.loop-preserved c).After-entry_count-count).0 k.entry_count-count.ensures.0 l.loop.invariant.1 r.last_of_run.ensures c.or-last.ensures in
+    let next = entries_last (shift_of a.s) a.f.now a.start l.loop.counter l.loop.p k.entry_count-count.result l.loop.last r.last_of_run.result c.or-last.result (λ i. (l.type_inv.f i).fits) l.loop.invariant.0 (room (goal.at.loop-preserved c).After-entry_count-count).0 k.entry_count-count.ensures.0 l.loop.invariant.1 r.last_of_run.ensures c.or-last.ensures in
     ((room (goal.at.loop-preserved c).After-entry_count-count).1, next)
 
 pub returns : goal.returns
@@ -61,4 +61,4 @@ returns c =
     let l = c.loop in
     let a = c.args in
     let e : l.counter ≡ a.n = omega arith in
-    last-from _ _ _ _ _ _ _ (omega arith) (ap (λ (k : ℕ). over a.f.now a.start (banks_moved (shift_of a.s) a.f.now k a.start)) e) l.invariant.1
+    last_from _ _ _ _ _ _ _ (omega arith) (ap (λ (k : ℕ). over a.f.now a.start (banks_moved (shift_of a.s) a.f.now k a.start)) e) l.invariant.1

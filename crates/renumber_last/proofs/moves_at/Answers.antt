@@ -1,5 +1,5 @@
 -- The index that is read stays or moves.
-use Rattle.renumber_last.proofs.LastLaws.{index_stays, index-moves}
+use Rattle.renumber_last.proofs.LastLaws.{index_stays, index_moves}
 use Rattle.renumber.proofs.Laws.{shift_small}
 use Rattle.renumber.specs.Shift.{shift_of}
 use Rattle.fields.proofs.Laws.{num-lt}
@@ -21,4 +21,4 @@ returns c =
     let k = x in
     let a = k.args in
     let small = shift_small a.s _ (num-lt a.f.now a.p 2 (λ i. (k.type_inv.f i).fits)) in
-    index-moves (shift_of a.s) a.f.now a.p _ _ (omega arith) small x.le16-x.ensures s.shifted.ensures c.if-shifted-x.false
+    index_moves (shift_of a.s) a.f.now a.p _ _ (omega arith) small x.le16-x.ensures s.shifted.ensures c.if-shifted-x.false

@@ -5,7 +5,7 @@ use Rattle.std.specs.Result.{result_ok}
 use Rattle.format.specs.declared.refusals.Reason.TheVariants as reason
 use Rattle.fields.specs.Rule.{Refused}
 use lib.ListN.{length-take}
-use Rattle.journal.proofs.ScanLaws.{head_read, head-broken}
+use Rattle.journal.proofs.ScanLaws.{head_read, head_broken}
 use Rattle.preconditions.proofs.PreconditionLaws.{preconditions-inside}
 use Rattle.undo.proofs.UndoLaws.{held-read, undo-broken, undo-none, undo-first-entry, undo-asks}
 use native.Mathlib.Omega.{arith}
@@ -48,7 +48,7 @@ returns-in_err-top c =
     let w = held-read _ _ c.history_entries.ensures (c.ok_or.ensures.ok_part ∙ ap result_ok c.in_ok-entries.was) in
     let none = c.ok_or-2.ensures.ok_part ∙ ap result_ok c.in_err-top.was in
     let returned : c.from_residual-in_err-top.result ≡ Refused reason.NoUndo 0 = search rules in
-    rw returned (undo-none _ e.room.now e.len e.history.now e.used c.requires _ w (head-broken _ 0 _ c.history_entry_at.ensures none))
+    rw returned (undo-none _ e.room.now e.len e.history.now e.used c.requires _ w (head_broken _ 0 _ c.history_entry_at.ensures none))
 
 pub take_back-requires : goal.take_back-requires
 take_back-requires c =

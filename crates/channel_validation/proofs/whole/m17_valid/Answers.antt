@@ -7,4 +7,4 @@ pub returns : goal.returns
 unfolding m17_rule
 returns c base =
     let whole = c.requires in
-    rw (c.operation_ok.ensures, c.nibbles_of-h.ensures) (simp (valid-both, valid-field, whole))
+    rw (c.operation_ok.ensures, c.from-h.ensures) (simp (valid-both, valid-field, whole))

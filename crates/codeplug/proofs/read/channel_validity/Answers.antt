@@ -1,6 +1,5 @@
 -- The place's rule at the count; a valid place comes with all 90 bytes.
 use mathlib.Core.Path.{sym, ◌∙◌}
-use Rattle.layout.specs.Places.{channel_count}
 use Rattle.codeplug.proofs.Laws.{place-valid, placed-channel}
 use native.Mathlib.Omega.{arith}
 use Rattle.codeplug.proofs.read.channel_validity.Goals as goal

@@ -1,6 +1,5 @@
 -- The place's rule at the count; a valid place comes with all 39 bytes.
 use mathlib.Core.Path.{sym, ◌∙◌}
-use Rattle.layout.specs.Places.{contact_count}
 use Rattle.codeplug.proofs.Laws.{place-valid, placed-contact}
 use native.Mathlib.Omega.{arith}
 use Rattle.codeplug.proofs.read.contact_validity.Goals as goal

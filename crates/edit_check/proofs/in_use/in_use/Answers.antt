@@ -1,5 +1,4 @@
 -- Each arm knows its kinds: the definition's rule for them.
-use mathlib.Core.List.{[]}
 use Rattle.edit_check.proofs.in_use.in_use.Goals as goal
 
 pub returns-in-RemoveContact : goal.returns-in-RemoveContact

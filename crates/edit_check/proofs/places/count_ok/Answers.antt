@@ -1,5 +1,4 @@
 -- Each arm knows its kinds: the definition's rule for them, over the counts of the file.
-use mathlib.Core.List.{[]}
 use Rattle.model.proofs.PlaceLaws.{contacts-count, channels-count, banks-count}
 use Rattle.edit_check.proofs.places.count_ok.Goals as goal
 

@@ -2,7 +2,7 @@ use mathlib.Core.Path.{◌≡◌}
 use native.Mathlib.Omega.{arith}
 use lib.ListN.{length, drop}
 use Rattle.journal.specs.Entry.{front_of, none}
-use Rattle.journal.proofs.ScanLaws.{HeadRead, head_read, head-broken}
+use Rattle.journal.proofs.ScanLaws.{HeadRead, head_read, head_broken}
 use Rattle.journal.proofs.ScanLaws.{fitting-start, fitting-step, fitting-full, fitting-end, fitting-whole}
 use Rattle.journal.proofs.scan.fitting.Goals as goal
 use Rattle.journal.proofs.scan.fitting.Goals.{In_default, In-Some}
@@ -18,7 +18,7 @@ none_here : (c : In_default)
 none_here c =
     let l = c in
     let s = l.args.s.now in
-    head-broken s l.loop-bytes.bytes (length s) c.history_entry_at.ensures c.in_default.is
+    head_broken s l.loop-bytes.bytes (length s) c.history_entry_at.ensures c.in_default.is
 
 pub loop-bytes-init : goal.loop-bytes-init
 loop-bytes-init c = (omega arith, fitting-start c.args.s.now c.args.space c.requires)
