@@ -5,9 +5,9 @@ use mathlib.Core.Bool.{Bool, true, false}
 use mathlib.Core.List.{List, [], ◌∷◌, ◌++◌, append_assoc, reverse, reverse-append, reverse-cons, reverse-reverse}
 use native.Mathlib.Omega.{arith}
 use native.Mathlib.Numerals.{add-one, one-add}
-use native.Mathlib.Nat.{zero-add, suc-add, sub_right_comm}
+use native.Mathlib.Nat.{zero-add, suc-add, sub-zero, sub_right_comm}
 use lib.ListN.{length, get_or, take, drop, length-drop, length-reverse, take-append-drop}
-use lib.Seq.{take_at, take-add, take-suc, drop-drop, drop-cons}
+use lib.Seq.{take_at, take-add, take-suc, take-length, drop-drop, drop-cons}
 use lib.Seq.{split_at, get_or_at}
 use lib.Bits.{bit_or, bit_xor, or_add_and, xor_add_and, and_le_l, and_le_r}
 use lib.Dec.{eqb}
@@ -41,6 +41,11 @@ pub same-all : (a b : List ℕ) (i j n k x : ℕ) → (x ≡ 0 → part a i k �
 same-all a b i j n k x f g e = rw (← g) (f (eqb-true x 0 e))
 
 -- ---- the common beginning
+
+pub common_prefix-nil : (a : List ℕ) → common_prefix a [] ≡ 0
+unfolding common_prefix
+common_prefix-nil [] = refl
+common_prefix-nil (x ∷ a) = refl
 
 -- the clauses, as equations
 pub common_prefix-same : (x y : ℕ) (a b : List ℕ) → x ≡ y → common_prefix (x ∷ a) (y ∷ b) ≡ suc (common_prefix a b)
@@ -207,6 +212,10 @@ common_suffix-append a b c =
 pub common_suffix-self : (a : List ℕ) → common_suffix a a ≡ length a
 unfolding common_suffix
 common_suffix-self a = common_prefix-self (reverse a) ∙ length-reverse a
+
+-- the scan: nothing read yet, m more bytes agree
+pub end_none : (a b : List ℕ) → common_suffix a b ≡ 0 + common_suffix (take (length a - 0) a) (take (length b - 0) b)
+end_none a b = rw (sub-zero (length a), sub-zero (length b), take-length a, take-length b) (sym (zero-add (common_suffix a b)))
 
 pub end_more : (a b : List ℕ) (i m : ℕ) → common_suffix a b ≡ i + common_suffix (take (length a - i) a) (take (length b - i) b)
     → part a (length a - i - m) m ≡ part b (length b - i - m) m → i + m ≤ length a → i + m ≤ length b

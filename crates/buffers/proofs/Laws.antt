@@ -8,6 +8,7 @@ use lib.ListN.{length, take, drop, length-append}
 use lib.Seq.{take-take, take-append-le, take_at, take-nil, length-take-le, drop_at}
 use Rattle.fields.specs.Bytes.{part, over, zeros}
 use Rattle.fields.proofs.Laws.{length_part, length_over, length-zeros, over-over}
+use Rattle.fields.proofs.Laws.{AllBytes, bytes-over, bytes-append, bytes-part, bytes-zeros}
 use Rattle.buffers.specs.Splice.{spliced}
 
 -- ---- writing over
@@ -102,3 +103,11 @@ module _ (d : List ℕ) (len p k : ℕ) (s : List ℕ) (inside : p + k ≤ len) 
       let n : p + k + (len - (p + k)) ≡ len = omega arith in
       let g : drop (p + k) (take len d) ≡ part d (p + k) (len - (p + k)) = rw n at (drop-take d (p + k) (len - (p + k))) in
       rw (f, ← e, g) spliced-content
+
+pub bytes-spliced : (d : List ℕ) (len p k : ℕ) (s : List ℕ) → AllBytes d → AllBytes s → AllBytes (spliced d len p k s)
+unfolding spliced
+bytes-spliced d len p k s f g =
+    let t = part d (p + k) (len - (p + k)) in
+    let z = zeros (k - length s) in
+    let h = bytes-append t z (bytes-part d (p + k) (len - (p + k)) f) (bytes-zeros (k - length s)) in
+    bytes-over d p (s ++ (t ++ z)) f (bytes-append s (t ++ z) g h)

@@ -1,7 +1,7 @@
 // The line of a call.
 use format::refusals::Refusal;
 use journal::answer::Done;
-use program_io::print::{checksum, number, word};
+use program_io::print::{checksum, number, refused, word};
 use std::io;
 use std::io::Write;
 
@@ -12,7 +12,7 @@ fn words<W: Write>(out: &mut W, a: Result<Done, Refusal>) -> io::Result<()> {
             number(out, b" ", done.used as u64)?;
             number(out, b" ", done.entries as u64)
         }
-        Err(refusal) => write!(out, "{refusal}"),
+        Err(refusal) => refused(out, refusal.reason.number(), refusal.place),
     }
 }
 

@@ -1,4 +1,5 @@
-// The C interface: the library's calls over structures of C and byte slices (bindings/c/include/codeplug.h), each exported by capi_c.
+// The C interface: the library's calls over structures of C and byte slices (bindings/c/include/codeplug.h), each exported by capi_c. C has no Option and no
+// Result: capi_numbers and capi_convert have the flat structures.
 #![tactic(auto)]
 
 pub mod calls; // calls.rt: edit and undo

@@ -1,4 +1,5 @@
-// The functions of capi as C links them (bindings/c/include/codeplug.h), each with the clauses of the function that it calls.
+// The functions of capi as C links them (bindings/c/include/codeplug.h), each with the clauses of the function that it calls,
+// whose signature it repeats: an export has no type parameter.
 #![tactic(auto)]
 
 pub mod calls; // calls.rt: edit and undo

@@ -1,4 +1,4 @@
-// The library's answers as structures of C (bindings/c/include/codeplug.h).
+// The library's answers as structures of C (bindings/c/include/codeplug.h). C has no Result, so a refusal's number stands beside blank values.
 #![tactic(auto)]
 
 pub mod channels; // channels.rt: a channel

@@ -1,5 +1,6 @@
 // The structures of the C interface that are numbers alone: a refusal, the answers of the two calls, of addresses and of tones, and a record's
 // values.
+// C has no Option and no Result, so a structure has a number for the refusal beside blank values, and an index or a frequency that is missing a number of its own.
 #![tactic(auto)]
 
 pub mod history; // history.rt: how many entries a history holds

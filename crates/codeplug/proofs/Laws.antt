@@ -12,8 +12,8 @@ use Rattle.fields.proofs.Laws.{length_part, then-valid, valid-then, both-valid, 
 use Rattle.m17.specs.declared.Edition.{Edition}
 use Rattle.contact.specs.Contact.{contact_answer}
 use Rattle.channel_reader.specs.Reading.{channel_answer}
-use Rattle.layout.specs.Places.{contact_count, channel_count, bank_count, contact_place, channel_place}
-use Rattle.layout.specs.Banks.{bank_head, banks_rule, bank_place}
+use Rattle.layout.specs.Places.{contact_count, channel_count, bank_count, contact_place, channel_place, offset_place}
+use Rattle.layout.specs.Banks.{offset_at, bank_head, banks_rule, bank_place}
 use Rattle.layout.proofs.Laws.{bank-leads, bank-valid, bank-head-length}
 use Rattle.file_rule.specs.File.{channel_at, file_rule}
 use Rattle.codeplug.specs.Read.{bytes_answer, place_rule, contact_read, channel_read, bank_answer, bank_read, entries_answer}
@@ -85,6 +85,21 @@ module _ (ed : Edition) (f : List ℕ) (n count : ℕ) (valid : place_rule ed f 
       let g = place-valid ed f n count valid in
       rw (placed-leads e)
       (bank_whole f (bank_place f n) (bank-valid f n (file-valid ed f g.file).banks (omega (arith, g.below))).0)
+
+-- ---- a bank of a file that was validated before
+
+pub record ValidPrevalidated (f : List ℕ) (n : ℕ) : Type 0 where
+  pub below : n < bank_count f
+  pub head : bank_head f (table_place f n) ≡ Valid
+
+pub prevalidated-valid : (f : List ℕ) (n : ℕ) → bank_prevalidated_rule f n ≡ Valid → ValidPrevalidated f n
+unfolding bank_prevalidated_rule
+prevalidated-valid f n h =
+    let a = then-valid _ _ h in
+    record {
+      below = ltb-true n (bank_count f) (unless-valid (ltb n (bank_count f)) reason.NoPlace 0 a.0);
+      head = (then-valid (offset_at f (offset_place f n)) (bank_head f (table_place f n)) a.1).1;
+    }
 
 -- ---- what stands beside a validity: beside a refusal the bytes do not matter
 

@@ -2,7 +2,7 @@
 use crate::print::{NONE, form};
 use bits::signed_byte;
 use channel::{Channel, Common, DmrInfo, FmInfo, Info, Location, M17Info};
-use program_io::print::{text, word};
+use program_io::print::{refused, text, word};
 use std::io::{Result, Write};
 use tones::Tone;
 
@@ -131,6 +131,6 @@ fn show<W: Write>(out: &mut W, c: Channel) -> Result<()> {
 pub(crate) fn read<W: Write>(out: &mut W, record: &[u8]) -> Result<()> {
     match channel_reader::read(record) {
         Ok(channel) => show(out, channel),
-        Err(refusal) => write!(out, "{refusal}"),
+        Err(refusal) => refused(out, refusal.reason.number(), refusal.place),
     }
 }

@@ -1,7 +1,7 @@
 // The line of a case: the answer, and a sum over the whole file after the call.
 use format::refusals::Refusal;
 use layout::Counts;
-use program_io::print::{checksum, number, word};
+use program_io::print::{checksum, number, refused, word};
 use std::io;
 use std::io::Write;
 
@@ -12,7 +12,7 @@ fn words<W: Write>(out: &mut W, a: Result<Counts, Refusal>) -> io::Result<()> {
             number(out, b" ", c.channels as u64)?;
             number(out, b" ", c.banks as u64)
         }
-        Err(refusal) => write!(out, "{refusal}"),
+        Err(refusal) => refused(out, refusal.reason.number(), refusal.place),
     }
 }
 

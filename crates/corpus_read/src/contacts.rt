@@ -31,6 +31,6 @@ fn show<W: Write>(out: &mut W, c: Contact) -> Result<()> {
 pub(crate) fn read<W: Write>(out: &mut W, record: &[u8], edition: Edition) -> Result<()> {
     match contact_reader::read(record, edition) {
         Ok(contact) => show(out, contact),
-        Err(refusal) => write!(out, "{refusal}"),
+        Err(refusal) => print::refused(out, refusal.reason.number(), refusal.place),
     }
 }

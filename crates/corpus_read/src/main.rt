@@ -18,14 +18,14 @@ fn validate<W: Write>(out: &mut W, file: &[u8], edition: Edition) -> Result<()> 
             print::number(out, b" ", c.channels as u64)?;
             print::number(out, b" ", c.banks as u64)
         }
-        Err(refusal) => write!(out, "{refusal}"),
+        Err(refusal) => print::refused(out, refusal.reason.number(), refusal.place),
     }
 }
 
 fn encode<W: Write>(out: &mut W, text: &[u8], edition: Edition) -> Result<()> {
     match m17_encoder::encode(text, edition) {
         Ok(n) => print::number(out, b"number ", n),
-        Err(refusal) => write!(out, "{refusal}"),
+        Err(refusal) => print::refused(out, refusal.reason.number(), refusal.place),
     }
 }
 

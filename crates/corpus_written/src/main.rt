@@ -15,7 +15,7 @@ use format::refusals::Refusal;
 use layout::places::record_bytes;
 use m17::{Decoded, Edition, edition_of};
 use program_io::input::case;
-use program_io::print::word;
+use program_io::print::{refused, word};
 use std::io;
 use std::io::{Read, Write};
 
@@ -23,7 +23,7 @@ fn decoded<W: Write>(out: &mut W, d: Result<Decoded, Refusal>) -> io::Result<()>
     match d {
         Ok(Decoded::Text(_)) => word(out, b"text"),
         Ok(Decoded::Broadcast) => word(out, b"broadcast"),
-        Err(refusal) => write!(out, "{refusal}"),
+        Err(refusal) => refused(out, refusal.reason.number(), refusal.place),
     }
 }
 

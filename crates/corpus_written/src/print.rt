@@ -1,13 +1,13 @@
 // A call's answer and a whole buffer, as lines have them.
 use format::refusals::Refusal;
-use program_io::print::{bytes, word};
+use program_io::print::{bytes, refused, word};
 use std::io;
 use std::io::Write;
 
 pub(crate) fn validity<W: Write>(out: &mut W, v: Result<(), Refusal>) -> io::Result<()> {
     match v {
         Ok(()) => word(out, b"wrote"),
-        Err(refusal) => write!(out, "{refusal}"),
+        Err(refusal) => refused(out, refusal.reason.number(), refusal.place),
     }
 }
 

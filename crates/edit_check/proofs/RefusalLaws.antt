@@ -65,6 +65,9 @@ module _ (k : Kind) (i j : ℕ) (r f : List ℕ) where
     unfolding refuses_known
     in_two ed = four-then _ _ _ _ (late ed)
 
+    pub refused-early : (ed : Edition) (v : Validity) (x : Refusal) → v ≡ early_rule k i j r f → v ≡ Err x → v ≡ refuses_known ed k i j r room f
+    refused-early ed v x e g = first-bad (early_rule k i j r f) (late ed) v x e g ∙ in_two ed
+
     module _ (ed : Edition) (v : Validity) (e : v ≡ early_rule k i j r f) (g : v ≡ Valid) (bytes : AllBytes f) (record-bytes : AllBytes r)
         (valid : file_rule ed f ≡ Valid) where
       validated : file_rule ed (result k i j r f) ≡ result_rule ed k i j r f

@@ -36,7 +36,7 @@ use Rattle.tones.specs.Tone.{tone_of, tone_ok, tone_index, frequency_of, tone_ta
 use Rattle.tones.specs.declared.Tone.{Tone}
 use Rattle.tones.specs.declared.Tone.TheVariants.{Enabled, Disabled}
 use Rattle.std.specs.Prelude.{Ok}
-use Rattle.format.specs.declared.refusals.Reason.TheVariants as reason
+use Rattle.format.specs.Refusals.{reason_of}
 use Rattle.journal.specs.Answer.{done_with}
 use Rattle.fields.specs.Rule.{Valid, Refused}
 
@@ -56,7 +56,7 @@ with_tone b = zeros 85 ++ (b ∷ zeros 4)
 abbrev Shortest : Type 0
 Shortest =
     (number_at (0x80 ∷ 0x00 ∷ []) ≡ None)
-    × (whole_rule (entries_of (0x80 ∷ 0x00 ∷ 0x00 ∷ 0x00 ∷ [])) ≡ Refused reason.BadHistory 0)
+    × (whole_rule (entries_of (0x80 ∷ 0x00 ∷ 0x00 ∷ 0x00 ∷ [])) ≡ Refused (reason_of 31) 0)
     × (entries_of (0x00 ∷ 0x00 ∷ 0x00 ∷ []) ≡ whole (record { place = 0; put = 0; old = [] } ∷ []))
 
 -- ---- edits
@@ -100,7 +100,7 @@ Banked =
 abbrev NoRoomForEntry : Type 0
 NoRoomForEntry =
     edit_step (editing Older) dated (at (7 ∷ []) (1 ∷ 2 ∷ 3 ∷ []))
-    ≡ record { answer = Refused reason.HistoryTooSmall 0; room = empty 0 ++ (7 ∷ []); history = 1 ∷ 2 ∷ 3 ∷ [] }
+    ≡ record { answer = Refused (reason_of 37) 0; room = empty 0 ++ (7 ∷ []); history = 1 ∷ 2 ∷ 3 ∷ [] }
 
 -- ---- the table
 
@@ -111,14 +111,14 @@ Rows =
     (encoding Older (65 ∷ []) ≡ Ok 1)
     × (encoding Older (65 ∷ 66 ∷ 49 ∷ 67 ∷ 68 ∷ []) ≡ Ok 10_476_881)
     × (encoding Older (32 ∷ 65 ∷ []) ≡ Ok 40)
-    × (encoding Older (65 ∷ 32 ∷ []) ≡ Refused reason.CallsignSpace 0)
+    × (encoding Older (65 ∷ 32 ∷ []) ≡ Refused (reason_of 22) 0)
     × (encoding Older (replicate 9 46) ≡ Ok 262_143_999_999_999)
-    × (decoding Older 9 262_144_000_000_000 ≡ Refused reason.AddressNumber 0)
-    × (encoding Older [] ≡ Refused reason.CallsignLength 0)
+    × (decoding Older 9 262_144_000_000_000 ≡ Refused (reason_of 23) 0)
+    × (encoding Older [] ≡ Refused (reason_of 20) 0)
     × Means 0x1F (Disabled 31) 1738
     × Means 0x8E (Enabled 14) 1072
     × (fm_rule (with_tone 0x31) 0 ≡ Valid)
-    × (fm_rule (with_tone 0x32) 0 ≡ Refused reason.Value 85)
+    × (fm_rule (with_tone 0x32) 0 ≡ Refused (reason_of 7) 85)
     × (number_bytes 127 ≡ 0x7F ∷ [])
     × (number_bytes 128 ≡ 0x80 ∷ 0x01 ∷ [])
     × Shortest
@@ -127,7 +127,7 @@ Rows =
     × NoRoomForEntry
 
 pub paper-rows : Rows
-unfolding encoding decoding hash_signs foreign_place number_of address_of digit_of first_foreign foreign ends_in_space within is_callsign text_for text_up_to char_of tone_of tone_ok tone_index frequency_of tone_table fm_rule edit_step edit_outcome edit_rule buffers_rule file_of history_of entry_list whole_rule done holding refused new_entry recorded fitting_run entry_size history_bytes refuses refuses_kind refuses_known file_rule header_rule identity_rule contacts_rule channels_rule offsets_rule banks_rule banks_from bank_at bank_head next_bank entry_count each text_ok text_of all_zero plain_text zeros unless field_of ◌then◌ number_bytes groups entries_of entries_up_to front_of with_place with_put with_old number_at groups_at at_most with_group before rest_of entry_bytes entry_of suffix_length common_prefix common_suffix applied applied_kind kind_of result codeplug_of codeplug_bytes edited insert_at with_banks with_preamble joined bank_bytes pairs offsets_from count_bytes blocks banks_at contact_count channel_count bank_count contact_place channel_place offset_place banks_place little little_bytes
+unfolding reason_of encoding decoding hash_signs foreign_place number_of address_of digit_of first_foreign foreign ends_in_space within is_callsign text_for text_up_to char_of tone_of tone_ok tone_index frequency_of tone_table fm_rule edit_step edit_outcome edit_rule buffers_rule file_of history_of entry_list whole_rule done holding refused new_entry recorded fitting_run entry_size history_bytes refuses refuses_kind refuses_known file_rule header_rule identity_rule contacts_rule channels_rule offsets_rule banks_rule banks_from bank_at bank_head next_bank entry_count each text_ok text_of all_zero plain_text zeros unless field_of ◌then◌ number_bytes groups entries_of entries_up_to front_of with_place with_put with_old number_at groups_at at_most with_group before rest_of entry_bytes entry_of suffix_length common_prefix common_suffix applied applied_kind kind_of result codeplug_of codeplug_bytes edited insert_at with_banks with_preamble joined bank_bytes pairs offsets_from count_bytes blocks banks_at contact_count channel_count bank_count contact_place channel_place offset_place banks_place little little_bytes
 paper-rows = (refl, refl, refl, refl, refl, refl, refl, (refl, refl), (refl, refl), refl, refl, refl, refl, (refl, refl, refl), refl, refl, refl)
 
 -- ---- hash addresses
@@ -146,24 +146,24 @@ abbrev pub HashRows : Type 0
 HashRows =
     (encoding Newer (35 ∷ []) ≡ Ok 262_144_000_000_000)
     × (encoding Newer (35 ∷ replicate 8 46) ≡ Ok 268_697_599_999_999)
-    × (encoding Newer (35 ∷ replicate 9 46) ≡ Refused reason.CallsignLength 0)
-    × (encoding Newer (35 ∷ 32 ∷ []) ≡ Refused reason.CallsignSpace 0)
+    × (encoding Newer (35 ∷ replicate 9 46) ≡ Refused (reason_of 20) 0)
+    × (encoding Newer (35 ∷ 32 ∷ []) ≡ Refused (reason_of 22) 0)
     × (encoding Newer (35 ∷ 32 ∷ 65 ∷ []) ≡ Ok 262_144_000_000_040)
-    × (encoding Newer (35 ∷ 65 ∷ 32 ∷ []) ≡ Refused reason.CallsignSpace 0)
-    × (encoding Newer (35 ∷ 35 ∷ []) ≡ Refused reason.CallsignForeign 1)
-    × (encoding Newer (65 ∷ 35 ∷ []) ≡ Refused reason.CallsignForeign 1)
-    × (decoding Newer 9 268_697_600_000_000 ≡ Refused reason.AddressNumber 0)
+    × (encoding Newer (35 ∷ 65 ∷ 32 ∷ []) ≡ Refused (reason_of 22) 0)
+    × (encoding Newer (35 ∷ 35 ∷ []) ≡ Refused (reason_of 21) 1)
+    × (encoding Newer (65 ∷ 35 ∷ []) ≡ Refused (reason_of 21) 1)
+    × (decoding Newer 9 268_697_600_000_000 ≡ Refused (reason_of 23) 0)
     × (decoding Newer 9 0xFFFFFFFFFFFF ≡ (Ok decoded.Broadcast))
     × Writes 262_143_999_999_999 (replicate 9 46)
     × Writes 262_144_000_000_000 (35 ∷ zeros 8)
     × Writes 262_144_000_000_040 (35 ∷ 32 ∷ 65 ∷ zeros 6)
     × Writes 268_697_599_999_999 (35 ∷ replicate 8 46)
     × (contact_rule Newer hash_contact 0 ≡ Valid)
-    × (encoding Older (35 ∷ []) ≡ Refused reason.CallsignForeign 0)
-    × (decoding Older 9 268_697_599_999_999 ≡ Refused reason.AddressNumber 0)
-    × (contact_rule Older hash_contact 0 ≡ Refused reason.Address 33)
+    × (encoding Older (35 ∷ []) ≡ Refused (reason_of 21) 0)
+    × (decoding Older 9 268_697_599_999_999 ≡ Refused (reason_of 23) 0)
+    × (contact_rule Older hash_contact 0 ≡ Refused (reason_of 8) 33)
     × (edition_of 2 ≡ Older)
 
 pub hash-rows : HashRows
-unfolding encoding decoding decoded_into decoded_by hash_signs foreign_place number_of address_of digit_of first_foreign foreign ends_in_space within is_callsign text_for text_up_to char_of zeros address_ok contact_rule m17_rule mode_ok text_ok text_of all_zero plain_text unless field_of ◌then◌ big_from edition_of
+unfolding reason_of encoding decoding decoded_into decoded_by hash_signs foreign_place number_of address_of digit_of first_foreign foreign ends_in_space within is_callsign text_for text_up_to char_of zeros address_ok contact_rule m17_rule mode_ok text_ok text_of all_zero plain_text unless field_of ◌then◌ big_from edition_of
 hash-rows = (refl, refl, refl, refl, refl, refl, refl, refl, refl, refl, refl, refl, refl, refl, refl, refl, refl, refl, refl)

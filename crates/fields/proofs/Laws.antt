@@ -10,7 +10,7 @@ use native.Mathlib.Nat.{mul-le-mul_right, div-one, div-div-eq-div-mul, sub-zero}
 use lib.ListN.{length, get_or, take, drop, set, replicate, length-append, length-take, length-drop, length-replicate}
 use lib.ListN.{take-append-drop, replicate-append-replicate}
 use lib.Seq.{length-take-le, paste, take_all, take_at, drop_at, take-take, drop-drop, drop-nil, take-nil}
-use lib.Seq.{drop-cons, drop-append-le, drop-append-add, take-append-le, take-append_seam, take-add}
+use lib.Seq.{drop-cons, drop-append-le, drop-append-add, drop-append_seam, take-append-le, take-append_seam, take-add}
 use lib.Seq.{take-suc, set_split, get_or-take, get_or-drop, get_or-append-add}
 use lib.Arith.{digits_div, mod-mul}
 use lib.Dec.{leb}
@@ -34,6 +34,9 @@ length_part s k n h = simp (length-take, length-drop) (omega arith)
 
 pub get_d_part : (s : List ℕ) (k n i : ℕ) → i < n → get_or (part s k n) i 0 ≡ get_or s (k + i) 0
 get_d_part s k n i h = rw (get_or-take, get_or-drop)
+
+pub get_or-part-one : (s : List ℕ) (k : ℕ) → get_or (part s k 1) 0 0 ≡ get_or s k 0
+get_or-part-one s k = get_d_part s k 1 0 (omega arith) ∙ rw add-zero
 
 -- the part at the front of a longer part of l
 take-drop-take : (l : List ℕ) (k n w : ℕ) → k + n ≤ w → take n (drop k (take w l)) ≡ take n (drop k l)
@@ -64,6 +67,9 @@ part-suc s k i h = take-suc (drop k s) i 0 (simp length-drop (omega arith)) ∙ 
 pub part-cons : (s : List ℕ) (k n : ℕ) → k < length s → part s k (suc n) ≡ get_or s k 0 ∷ part s (suc k) n
 part-cons s k n h = rw (drop-cons s k 0 h)
 
+pub part-next : (s : List ℕ) (k i n : ℕ) → k + i < length s → part s (k + i) (suc n) ≡ get_or s (k + i) 0 ∷ part s (k + suc i) n
+part-next s k i n h = part-cons s (k + i) n h ∙ rw (← add-suc k i)
+
 pub part-all : (s : List ℕ) (n : ℕ) → length s ≤ n → part s 0 n ≡ s
 part-all s n h = take_all n s h
 
@@ -74,12 +80,26 @@ part_left a b k n h =
     let g : n ≤ length (drop k a) = simp length-drop (omega arith) in
     rw (drop-append-le k a b f, take-append-le n (drop k a) b g)
 
+pub part-seam : (a b : List ℕ) (n : ℕ) → part (a ++ b) (length a) n ≡ take n b
+part-seam a b n = rw drop-append_seam
+
 pub part_right : (a b : List ℕ) (k n : ℕ) → part (a ++ b) (length a + k) n ≡ part b k n
 part_right a b k n = rw drop-append-add
+
+pub part-past : (a b : List ℕ) (k n : ℕ) → length a ≤ k → part (a ++ b) k n ≡ part b (k - length a) n
+part-past a b k n h =
+    let e : k ≡ length a + (k - length a) = omega arith in
+    ap (λ (j : ℕ). part (a ++ b) j n) e ∙ part_right a b (k - length a) n
 
 -- the middle one of three lists
 pub part_at : (a b c : List ℕ) (k n : ℕ) → length a ≡ k → length b ≡ n → part (a ++ (b ++ c)) k n ≡ b
 part_at a b c k n ha hb = rw (drop_at a (b ++ c) k ha, take_at b c n hb)
+
+-- the last one of two lists
+pub part-last : (a b : List ℕ) (k n : ℕ) → length a ≡ k → length b ≡ n → part (a ++ b) k n ≡ b
+part-last a b k n ha hb =
+    let f : length b ≤ n = omega arith in
+    rw (drop_at a b k ha, take_all n b f)
 
 -- a has n bytes, as a record, from which antt finds a and n
 pub record Long (a : List ℕ) (n : ℕ) : Type 0 where
@@ -112,6 +132,9 @@ num-skip h b k n = ap little (part-skip h b k n)
 pub length-zeros : (n : ℕ) → length (zeros n) ≡ n
 unfolding zeros
 length-zeros n = length-replicate n 0
+
+pub long-zeros : (n : ℕ) → Long (zeros n) n
+long-zeros n = record { long = length-zeros n }
 
 pub drop-zeros : (m n : ℕ) → drop m (zeros (m + n)) ≡ zeros n
 unfolding zeros
@@ -167,6 +190,10 @@ over-front w v n =
 pub over-front-at : (w v : List ℕ) (k m n : ℕ) → k ≡ length w → m ≡ length v + n → over (w ++ zeros m) k v ≡ (w ++ v) ++ zeros n
 over-front-at w v k m n e f = rw (e, f) (over-front w v n)
 
+-- the same, with what is left as a difference
+pub over-place : (w v : List ℕ) (k m : ℕ) → length w ≡ k → length v ≤ m → over (w ++ zeros m) k v ≡ (w ++ v) ++ zeros (m - length v)
+over-place w v k m e h = over-front-at w v k m (m - length v) (sym e) (omega arith)
+
 -- two fields that lie side by side; o is the list after the first
 over-of : (o d : List ℕ) (k : ℕ) (s : List ℕ) (j : ℕ) (t : List ℕ) → j ≡ k + length s → take (k + length s) o ≡ take k d ++ s
     → drop (k + length s) o ≡ drop (k + length s) d → over o j t ≡ over d k (s ++ t)
@@ -180,6 +207,9 @@ over-of o d k s j t e p q =
 pub over-over : (d : List ℕ) (k : ℕ) (s : List ℕ) (j : ℕ) (t : List ℕ) → j ≡ k + length s → k ≤ length d
     → over (over d k s) j t ≡ over d k (s ++ t)
 over-over d k s j t e h = over-of (over d k s) d k s j t e (take-over d k s h) (drop-over d k s h)
+
+pub over-beside : (d : List ℕ) (k : ℕ) (s t : List ℕ) → k ≤ length d → over (over d k s) (k + length s) t ≡ over d k (s ++ t)
+over-beside d k s t h = over-over d k s (k + length s) t refl h
 
 -- a call that writes t right behind s: o is the list before the call and p the list after it
 pub over-then : (o p d : List ℕ) (k : ℕ) (s : List ℕ) (j : ℕ) (t : List ℕ) {n : ℕ} → Long s n → o ≡ over d k s → p ≡ over o j t
@@ -592,6 +622,12 @@ num-at a c k n x h g = ap little (part_at a (little_bytes n x) c k n h (length-l
 pub num-front : (c : List ℕ) (n x : ℕ) → x < 256 ^ n → num (little_bytes n x ++ c) 0 n ≡ x
 num-front c n x g = num-at [] c 0 n x refl g
 
+pub little_bytes-add : (m n x : ℕ) → little_bytes (m + n) x ≡ little_bytes m x ++ little_bytes n (x / 256 ^ m)
+unfolding little_bytes
+little_bytes-add zero n x = rw (zero-add, pow-zero, div-one)
+little_bytes-add (suc m) n x =
+    rw (suc-add, pow-succ', ← div-div-eq-div-mul x 256 (256 ^ m), little_bytes-add m n (x / 256))
+
 -- the high bytes do not count
 pub little_bytes-mod : (n x : ℕ) → little_bytes n (x % 256 ^ n) ≡ little_bytes n x
 unfolding little_bytes
@@ -645,12 +681,27 @@ big-big_bytes (suc n) x h =
     let f : x / 256 < 256 ^ n = omega arith in
     rw (big_from-append 0 (big_bytes n (x / 256)) (x % 256 ∷ []), big-big_bytes n (x / 256) f) (omega arith)
 
+pub big-at : (a c : List ℕ) (k n x : ℕ) → length a ≡ k → x < 256 ^ n → big (part (a ++ (big_bytes n x ++ c)) k n) ≡ x
+big-at a c k n x h g = ap (λ (l : List ℕ). big l) (part_at a (big_bytes n x) c k n h (length-big_bytes n x)) ∙ big-big_bytes n x g
+
+pub big-front : (c : List ℕ) (n x : ℕ) → x < 256 ^ n → big (part (big_bytes n x ++ c) 0 n) ≡ x
+big-front c n x g = big-at [] c 0 n x refl g
+
 pub big_bytes-add : (m n x : ℕ) → big_bytes (m + n) x ≡ big_bytes m (x / 256 ^ n) ++ big_bytes n x
 unfolding big_bytes
 big_bytes-add m zero x = rw (add-zero, pow-zero, div-one) (sym (append-nil (big_bytes m x)))
 big_bytes-add m (suc n) x =
     rw (add-suc, pow-succ', ← div-div-eq-div-mul x 256 (256 ^ n), big_bytes-add m n (x / 256))
     (append_assoc (big_bytes m (x / 256 / 256 ^ n)) (big_bytes n (x / 256)) (x % 256 ∷ []))
+
+pub big_bytes-mod : (n x : ℕ) → big_bytes n (x % 256 ^ n) ≡ big_bytes n x
+unfolding big_bytes
+big_bytes-mod zero x = refl
+big_bytes-mod (suc n) x =
+    let e : x % 256 ^ suc n ≡ (x / 256 % 256 ^ n) * 256 + x % 256 = rw pow-suc (mod-mul x (pow-pos-256 n) (omega arith)) in
+    let f : ((x / 256 % 256 ^ n) * 256 + x % 256) % 256 ≡ x % 256 = omega arith in
+    let g : ((x / 256 % 256 ^ n) * 256 + x % 256) / 256 ≡ x / 256 % 256 ^ n = omega arith in
+    rw (e, f, g, big_bytes-mod n (x / 256))
 
 -- the high byte in front
 pub big_bytes-suc : (n x : ℕ) → big_bytes (suc n) x ≡ x / 256 ^ n % 256 ∷ big_bytes n x

@@ -5,6 +5,7 @@ use mathlib.Core.Bool.{Bool, true, false, ◌&&◌, ◌||◌, cond, false≢true
 use mathlib.Core.List.{List, [], ◌∷◌}
 use mathlib.Core.Logic.{◌⊎◌, inl, inr, ⊎_elim}
 use native.Mathlib.Omega.{arith}
+use native.Mathlib.Numerals.{add-one}
 use native.Mathlib.Nat.{pow-suc, le_of_suc-le-suc, not-suc-le-zero, eq-zero-or-pos, pow-le-pow_right}
 use lib.ListN.{length, get_or, drop, length-drop}
 use lib.Seq.{drop-cons}
@@ -150,6 +151,10 @@ foreign-le (c ∷ s) = go (foreign c) (foreign-le s)
 pub foreign-here : (s : List ℕ) (i : ℕ) → i < length s → digit_of (get_or s i 0) ≡ 40 → first_foreign (drop i s) ≡ 0
 unfolding first_foreign foreign
 foreign-here s i h e = rw (drop-cons s i 0 h, e)
+
+pub foreign_next : (s : List ℕ) (i : ℕ) → i < length s → (digit_of (get_or s i 0) ≡ 40 → ⊥) → first_foreign (drop i s) ≡ 1 + first_foreign (drop (i + 1) s)
+unfolding first_foreign foreign
+foreign_next s i h e = rw (add-one, drop-cons s i 0 h, ne_eqb (digit_of (get_or s i 0)) 40 e)
 
 -- a foreign character anywhere
 pub foreign-at : (s : List ℕ) (i : ℕ) → i < length s → digit_of (get_or s i 0) ≡ 40 → first_foreign s < length s

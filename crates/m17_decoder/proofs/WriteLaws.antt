@@ -50,6 +50,13 @@ begun-hash n out room p =
       behind = drop-set-lt 9 out 0 hash_sign j;
     }
 
+-- behind the ninth byte a buffer is as lent, so that it may as well be the one lent
+pub begun-again : (n : ℕ) (lent out : List ℕ) (i len rest : ℕ) → Begun n lent out i len rest → Begun n out out i len rest
+begun-again n lent out i len rest b =
+    let r : 9 ≤ length lent = b.room in
+    let s : length out ≡ length lent = b.same in
+    record { room = omega arith; same = refl; few = b.few; inside = b.inside; count = b.count; text = b.text; behind = refl }
+
 pub begun-step : (n : ℕ) (lent out : List ℕ) (i len rest : ℕ) → Begun n lent out i len rest → i < 9
     → Begun n lent (set out i (while_rest rest (char_of (rest % 40)))) (i + 1) (len + while_rest rest 1) (rest / 40)
 begun-step n lent out i len rest b low =

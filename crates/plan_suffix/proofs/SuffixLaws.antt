@@ -4,7 +4,7 @@ use mathlib.Core.Path.{◌≡◌, refl, ap, sym, ◌∙◌}
 use mathlib.Core.List.{List, ◌++◌, append_assoc, append-nil}
 use native.Mathlib.Omega.{arith}
 use lib.ListN.{length, take, drop, length-append}
-use lib.Seq.{take-take}
+use lib.Seq.{take-take, take-length}
 use mir.Syntax.{w64}
 use mir.Val.{Fits}
 use Rattle.fields.specs.Bytes.{part, num, little_bytes}
@@ -47,6 +47,11 @@ offsets-last (suc n) g f p =
     let e : p + suc n * 4 ≡ p + 4 + n * 4 = omega arith in
     rw e (ap (λ (l : List ℕ). little_bytes 4 (g (num f p 4)) ++ l) (offsets-last n g f (p + 4))
     ∙ sym (append_assoc (little_bytes 4 (g (num f p 4))) (offsets_moved n g f (p + 4)) (little_bytes 4 (g (num f (p + 4 + n * 4) 4)))))
+
+pub suffix-none : (s w : List ℕ) → common_suffix s w ≡ 0 + common_suffix (take (length s - 0) s) w
+suffix-none s w =
+    let e : length s - 0 ≡ length s = omega arith in
+    rw (e, take-length s) (omega arith)
 
 -- the last e bytes agree; i offsets are left, and of the last of them, x, k bytes agree
 pub record Iteration (s w : List ℕ) (g : ℕ → ℕ) (f : List ℕ) (p i e k : ℕ) : Type 0 where

@@ -1,18 +1,19 @@
 -- Laws of what both calls validate first.
-use Prim.Native.Nat.{ℕ, ◌≤◌}
+use Prim.Native.Nat.{ℕ, ◌≤◌, ◌<◌}
 use mathlib.Core.Path.{◌≡◌, refl, sym}
 use mathlib.Core.Bool.{Bool, true, false, true≢false, ◌&&◌}
 use mathlib.Core.List.{List}
 use native.Mathlib.Omega.{arith}
-use lib.ListN.{length}
+use lib.ListN.{length, take}
 use lib.Dec.{leb}
-use borrow.Author.Tests.{leb-true}
-use Rattle.fields.specs.Rule.{unless, Valid}
+use borrow.Author.Tests.{le-leb, lt-leb, leb-true}
+use Rattle.fields.specs.Rule.{Validity, Valid, Refused, ◌then◌, unless}
 use Rattle.fields.proofs.Laws.{then-valid, unless-valid}
 use Rattle.m17.specs.declared.Edition.{Edition}
-use Rattle.journal.specs.Entry.{Entries, whole, broken}
+use Rattle.file_rule.specs.File.{file_rule}
+use Rattle.journal.specs.Entry.{Entries, whole, broken, entries_of}
 use Rattle.journal.specs.History.{number_of_entries}
-use Rattle.journal.specs.Machine.{State, whole_rule, history_of, buffers_rule}
+use Rattle.journal.specs.Machine.{State, whole_rule, file_of, history_of, buffers_rule}
 use Rattle.edits.specs.Editing.{editing}
 use Rattle.preconditions.specs.Calls.{state_of}
 use Rattle.std.specs.Prelude.{None}
@@ -33,6 +34,20 @@ broken-by (whole es) e = let z : ◌≡◌ {A = ℕ} 0 1 = cc in absurd (omega a
 broken-by broken e = refl
 
 -- ---- all three
+
+pub preconditions-room : (ed : Edition) (d : List ℕ) (len : ℕ) (h : List ℕ) (used : ℕ) → length d < len → Refused reason.BadLength 0 ≡ buffers_rule (editing ed) (state_of d len h used)
+unfolding buffers_rule unless ◌then◌
+preconditions-room ed d len h used g = rw (lt-leb len (length d) g)
+
+pub preconditions-history : (ed : Edition) (d : List ℕ) (len : ℕ) (h : List ℕ) (used : ℕ) → len ≤ length d → length h < used
+    → Refused reason.BadLength 0 ≡ buffers_rule (editing ed) (state_of d len h used)
+unfolding buffers_rule unless ◌then◌
+preconditions-history ed d len h used f g = rw (le-leb len (length d) f, lt-leb used (length h) g)
+
+pub preconditions-both : (ed : Edition) (d : List ℕ) (len : ℕ) (h : List ℕ) (used : ℕ) (v w r : Validity) → len ≤ length d → used ≤ length h → v ≡ file_rule ed (take len d)
+    → w ≡ whole_rule (entries_of (take used h)) → r ≡ v then w → r ≡ buffers_rule (editing ed) (state_of d len h used)
+unfolding buffers_rule unless ◌then◌ file_of history_of
+preconditions-both ed d len h used v w r f g e i j = rw (le-leb len (length d) f, le-leb used (length h) g, ← e, ← i) j
 
 pub and_both : (a b : Bool) → a && b ≡ true → (a ≡ true) × (b ≡ true)
 and_both true true e = (refl, refl)

@@ -1,12 +1,13 @@
 -- Laws of texts: a field's bytes go to a text and back, and validation's step from byte to byte. By recursion on the list.
 use Prim.Native.Nat.{ℕ, zero, suc, ◌+◌, ◌-◌, ◌≤◌, ◌<◌}
 use mathlib.Core.Path.{◌≡◌, refl, sym, ap, ◌∙◌}
+use mathlib.Core.Logic.{◌⊎◌, inl, inr}
 use mathlib.Core.Bool.{Bool, true, false, ◌&&◌, ◌||◌, not, cond}
 use mathlib.Core.List.{List, [], ◌∷◌, ◌++◌}
 use native.Mathlib.Nat.{add-zero}
 use native.Mathlib.Numerals.{add-one}
 use native.Mathlib.Omega.{arith}
-use borrow.Author.Tests.{leb-true, le-leb, ne_eqb, eqb-true}
+use borrow.Author.Tests.{leb-true, le-leb, lt-leb, eq-eqb, ne_eqb, eqb-true}
 use lib.Dec.{leb, eqb}
 use lib.ListN.{length, drop, get_or, length-append, length-replicate, drop_of_length-le}
 use lib.Seq.{drop-cons}
@@ -29,6 +30,15 @@ printable-range b h = let p = and_parts _ _ h in (leb-true 32 b p.0, leb-true b 
 
 pub printable-nonzero : (b : ℕ) → printable b ≡ true → eqb b 0 ≡ false
 printable-nonzero b h = let l : (32 ≤ b) × (b ≤ 126) = printable-range b h in ne_eqb b 0 (λ e. omega arith)
+
+pub unprintable : (b : ℕ) → (b < 32) ⊎ (126 < b) → printable b ≡ false
+unfolding printable
+unprintable b (inl h) = rw (lt-leb 32 b h)
+unprintable b (inr h) = rw (le-leb 32 b (omega arith), lt-leb b 126 h)
+
+pub is-printable : (b : ℕ) → 32 ≤ b → b ≤ 126 → printable b ≡ true
+unfolding printable
+is-printable b l h = rw (le-leb 32 b l, le-leb b 126 h)
 
 -- A field, byte by byte
 
@@ -69,6 +79,24 @@ all_zero-is (b ∷ s) h =
     let e : b ≡ 0 = eqb-true b 0 (and_parts _ _ h).0 in
     let r : s ≡ zeros (length s) = all_zero-is s (and_parts (eqb b 0) _ h).1 in
     cc
+
+-- A text, byte by byte: what is left behind i decides
+
+plain-next : (s : List ℕ) (i : ℕ) → i < length s → plain_text (drop i s) ≡ printable (get_or s i 0) && plain_text (drop (i + 1) s)
+unfolding plain_text
+plain-next s i h = rw (drop-cons s i 0 h, add-one)
+
+pub plain_step : (s : List ℕ) (i : ℕ) → i < length s → 32 ≤ get_or s i 0 → get_or s i 0 ≤ 126
+    → plain_text s ≡ plain_text (drop i s) → plain_text s ≡ plain_text (drop (i + 1) s)
+plain_step s i h l u inv = inv ∙ (plain-next s i h ∙ rw (is-printable (get_or s i 0) l u))
+
+pub plain-stop : (s : List ℕ) (i : ℕ) → i < length s → (get_or s i 0 < 32) ⊎ (126 < get_or s i 0)
+    → plain_text s ≡ plain_text (drop i s) → false ≡ plain_text s
+plain-stop s i h bad inv = sym (inv ∙ (plain-next s i h ∙ rw (unprintable (get_or s i 0) bad)))
+
+pub plain_end : (s : List ℕ) (i : ℕ) → length s ≤ i → plain_text s ≡ plain_text (drop i s) → true ≡ plain_text s
+unfolding plain_text
+plain_end s i h inv = sym (inv ∙ rw (drop_of_length-le s {i = i} h))
 
 -- A text with zeros after it
 
@@ -220,3 +248,17 @@ scan-end s i faults prev h inv = sym (inv ∙ rw (drop_of_length-le s {i = i} h,
     at : (t : Bool) → cond t true false ≡ t
     at true = refl
     at false = refl
+
+-- ---- how long a field's text is, counted from the front
+
+pub text-more : (s : List ℕ) (i : ℕ) → i < length s → (get_or s i 0 ≡ 0 → ⊥) → length (text_of (drop i s)) ≡ suc (length (text_of (drop (suc i) s)))
+unfolding text_of
+text-more s i h z = rw (drop-cons s i 0 h, ne_eqb (get_or s i 0) 0 z)
+
+pub text-stop : (s : List ℕ) (i : ℕ) → i < length s → get_or s i 0 ≡ 0 → length (text_of (drop i s)) ≡ 0
+unfolding text_of
+text-stop s i h z = rw (drop-cons s i 0 h, eq-eqb (get_or s i 0) 0 z)
+
+pub text-end : (s : List ℕ) (i : ℕ) → length s ≤ i → length (text_of (drop i s)) ≡ 0
+unfolding text_of
+text-end s i h = rw (drop_of_length-le s h)

@@ -6,6 +6,7 @@ use mathlib.Core.List.{List}
 use Prim.Native.Nat.{ℕ, ◌+◌, ◌%◌, ◌<◌, ◌≤◌}
 use native.Mathlib.Nat.{zero-add}
 use native.Mathlib.Omega.{arith}
+use lib.Bits.{bit_or, or_shifted}
 use lib.Dec.{leb, eqb}
 use lib.ListN.{length, get_or}
 use borrow.Author.Tests.{ltb-true, leb-true, leb-false, eqb-true, lt-ltb, le-leb, lt-leb}
@@ -72,6 +73,13 @@ pub tone_byte-lt : (t : Tone) → tone_valid t ≡ true → tone_byte t < 256
 unfolding tone_byte tone_index
 tone_byte-lt (Enabled i) g = omega (arith, tone-index (Enabled i) g)
 tone_byte-lt (Disabled i) g = omega (arith, tone-index (Disabled i) g)
+
+-- what the code makes of each kind
+pub enabled-byte : (t : Tone) (i : ℕ) → t ≡ Enabled i → tone_valid t ≡ true → bit_or 128 i ≡ tone_byte t
+unfolding tone_byte tone_index
+enabled-byte t i e g =
+    let l : i < 50 = tone-index (Enabled i) (rw e at g) in
+    rw e (or_shifted 1 7 i (omega arith))
 
 -- ---- the table
 

@@ -1,0 +1,2 @@
+-- Laws of a group's digits.
+pub mod DigitLaws
